@@ -10,8 +10,8 @@ use Rattle.algorithm_texts.specs.declared.tokens.Token.{Token}
 use Rattle.algorithm_texts.specs.Parts.{◌>>=◌}
 use Rattle.algorithm_texts.specs.Grammar.{is_among}
 use Rattle.algorithm_texts.specs.Fronts.{is_the_word, is_the_sign, letters_of, past_word, past_sign, is_over, deed_said, members_said, past_withdraw, value_tokens, value_rest, begins_no_simple}
-use Rattle.algorithm_texts.specs.Drafts.{SharedWord, DraftAction, Loading, Storing, Awaiting, Accessing, Noting, Going, Beginning, Drafted}
-use Rattle.algorithm_texts.specs.LineDrafts.{read_value, read_condition, scope_in, new_name, name_set, index_in, with_names, with_form, read_word, read_until, read_deed, read_access, read_await, read_store, is_no_word, read_load, begins_word, read_assigned_value, read_assigned, read_private_assignment, read_assignment, read_done, read_goto, read_simple, opening, closing, landing, read_test, read_then, is_looping, loops, loop_opened, read_for, else_after, else_in, going_round, end_in, read_label}
+use Rattle.algorithm_texts.specs.Drafts.{SharedWord, DraftAction, Loading, Storing, Awaiting, Swapping, Accessing, Noting, Going, Beginning, Drafted}
+use Rattle.algorithm_texts.specs.LineDrafts.{read_value, read_condition, scope_in, new_name, name_set, index_in, with_names, with_form, read_word, read_until, read_deed, read_access, begins_swap, read_swap_value, read_swap, read_awaited_swap, read_awaited_load, read_awaited, read_await, read_store, is_no_word, read_load, begins_word, read_assigned_value, read_assigned, read_private_assignment, read_assignment, read_done, read_goto, read_simple, opening, closing, landing, read_test, read_then, is_looping, loops, loop_opened, read_for, else_after, else_in, going_round, end_in, read_label}
 use Rattle.algorithm_texts.specs.TextDrafts.{with_number}
 use Rattle.algorithm_texts.specs.Blocks.{Block, Empty, Line, Enclosed, Divided, read_if_block, read_if_line, begins_block, read_alone, divides, ends, draft_after_statement, beginning, dividing, ending, draft_after_block}
 
@@ -81,13 +81,35 @@ access_stays d word act tokens =
     stays (round d) (past_withdraw tokens) (λ rest. cond (is_over rest) (Some (accessed d word act tokens)) (read_deed (accessed d word act tokens) rest))
     (λ rest. choice_stays (round d) (is_over rest) (Some (accessed d word act tokens)) (read_deed (accessed d word act tokens) rest) refl (deed_stays (accessed d word act tokens) rest))
 
+swap_stays : (d : Drafted) (name : ℕ) (tokens : List Token) → Stays (round d) (read_swap d name tokens)
+swap_stays d name tokens =
+    stays (round d) (read_word (scope_in d) d.each d.names tokens) _
+    (λ word. stays (round d) (read_swap_value (scope_in d) word.2 word.1) _
+    (λ r. access_stays (with_names r.3 d) word.0 (Swapping name r.0 r.1 None) r.2))
+
+awaited_swap_stays : (d : Drafted) (name : ℕ) (tokens : List Token) → Stays (round d) (read_awaited_swap d name tokens)
+awaited_swap_stays d name tokens =
+    stays (round d) (read_word (scope_in d) d.each d.names tokens) _
+    (λ word. stays (round d) (read_swap_value (scope_in d) word.2 word.1) _
+    (λ r. stays (round d) (read_until (scope_in d) r.3 r.2) _
+    (λ until. access_stays (with_names until.2 d) word.0 (Swapping name r.0 r.1 (Some until.0)) until.1)))
+
+awaited_load_stays : (d : Drafted) (name : ℕ) (tokens : List Token) → Stays (round d) (read_awaited_load d name tokens)
+awaited_load_stays d name tokens =
+    stays (round d) (read_word (scope_in d) d.each d.names tokens) _
+    (λ word. stays (round d) (read_until (scope_in d) word.2 word.1) _
+    (λ until. access_stays (with_names until.2 d) word.0 (Awaiting name until.0) until.1))
+
+awaited_stays : (d : Drafted) (name : ℕ) (tokens : List Token) → Stays (round d) (read_awaited d name tokens)
+awaited_stays d name tokens =
+    choice_stays (round d) (begins_swap tokens) (read_awaited_swap d name (drop 1 tokens)) (read_awaited_load d name tokens)
+    (awaited_swap_stays d name (drop 1 tokens)) (awaited_load_stays d name tokens)
+
 await_stays : (d : Drafted) (tokens : List Token) → Stays (round d) (read_await d tokens)
 await_stays d tokens =
     stays (round d) (name_set (scope_in d) d.names (slice_get tokens 0)) _
     (λ name. stays (round d) (past_sign (drop 1 tokens) Assign) _
-    (λ rest. stays (round d) (read_word (scope_in d) d.each name.1 rest) _
-    (λ word. stays (round d) (read_until (scope_in d) word.2 word.1) _
-    (λ until. access_stays (with_names until.2 d) word.0 (Awaiting (index_in name.0) until.0) until.1))))
+    (λ rest. awaited_stays (with_names name.1 d) (index_in name.0) rest))
 
 store_stays : (d : Drafted) (tokens : List Token) → Stays (round d) (read_store d tokens)
 store_stays d tokens =
@@ -109,8 +131,9 @@ value_stays d name tokens =
 
 assigned_stays : (d : Drafted) (name : ℕ) (tokens : List Token) → Stays (round d) (read_assigned d name tokens)
 assigned_stays d name tokens =
-    choice_stays (round d) (begins_word d.declared (slice_get tokens 0) (slice_get tokens 1)) (read_load d name tokens) (read_assigned_value d name tokens)
-    (load_stays d name tokens) (value_stays d name tokens)
+    choice_stays (round d) (begins_swap tokens) (read_swap d name (drop 1 tokens)) _ (swap_stays d name (drop 1 tokens))
+    (choice_stays (round d) (begins_word d.declared (slice_get tokens 0) (slice_get tokens 1)) (read_load d name tokens) (read_assigned_value d name tokens)
+    (load_stays d name tokens) (value_stays d name tokens))
 
 private_stays : (d : Drafted) (tokens : List Token) → Stays (round d) (read_private_assignment d tokens)
 private_stays d tokens =

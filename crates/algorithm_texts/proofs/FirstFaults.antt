@@ -1,6 +1,5 @@
 -- Which line of a text is the first that is refused.
-use Rattle.std.proofs.Common.{◌≡◌, ℕ, ◌+◌, ◌<◌, ◌≤◌, List, [], ◌∷◌, ◌++◌, length, true, Result, Ok, Err, refl, sym, ap, ◌∙◌, subst, inl, inr, append_assoc, arith}
-use Rattle.std.specs.Prelude.{IfErr}
+use Rattle.std.proofs.Common.{◌≡◌, ℕ, ◌+◌, ◌<◌, ◌≤◌, List, [], ◌∷◌, ◌++◌, length, true, Ok, refl, sym, ap, ◌∙◌, subst, inl, inr, append_assoc, arith}
 use Rattle.std.specs.List.{list_all}
 use Rattle.std.proofs.lemmas.List.{length-append}
 use Rattle.algorithms.specs.Faults.{fault_of}
@@ -9,7 +8,7 @@ use Rattle.algorithms.specs.declared.fault.ReadFault.{ReadFault}
 use Rattle.algorithms.specs.declared.fault.ReadFault.TheVariants.{NoHeader, BadCharacter, NoNewline, BadForm, NameTaken, UnknownName, TwoAccesses, NotAssignable, BadBlock, BadLabel, Unset, Endless, NoStep, FallsOff, BadDeed, TooBig, BadCall, NeverReached, OutOfMemory as NoMemory}
 use Rattle.algorithm_texts.specs.declared.tokens.Token.{Token}
 use Rattle.algorithm_texts.specs.Fronts.{is_over}
-use Rattle.algorithm_texts.specs.TextLines.{ended_lines, and_line, is_no_feed, SayLines, SaysTokens, SaysBefore, SaysUpTo, TextSays, IsRefusalOf, IsAt, IsFirstFaultyLine, IsFaultOfLines}
+use Rattle.algorithm_texts.specs.TextLines.{ended_lines, and_line, is_no_feed, SayLines, SaysTokens, SaysBefore, SaysUpTo, IsRefusalOf, IsAt, IsFirstFaultyLine}
 use Rattle.algorithm_texts.specs.TextDrafts.{Spoken}
 use Rattle.algorithm_texts.specs.Tokens.{LineSays}
 use Rattle.algorithm_texts.proofs.LineTokens.{line_says_once}
@@ -137,13 +136,3 @@ end_first fault text rest number said at h free =
     let less : length h.lines ≤ length k.lines = omega (arith, h.count, k.count) in
     let a = after_some 1 h.lines k.lines said w.1 rest w.0 less h.say k.say (sym k.bytes ∙ h.bytes) in
     some_feed a.more rest w.0 (more_come h.lines k.lines a.more number a.is h.count k.count) a.bytes free))
-
--- ---- later faults
-
-pub lines_said : (text : List ℕ) (spoken : List Spoken) → TextSays text spoken → (fault : AlgorithmFault) → IsFaultOfLines text fault
-lines_said text spoken h fault = inl (spoken, h)
-
--- what holds of any fault holds of the one that is answered
-pub any_fault : {T E : Type 0} {Q : E → Type 0} (r : Result T E) → ((e : E) → Q e) → IfErr r Q
-any_fault (Ok x) h = tt
-any_fault (Err e) h = h e

@@ -15,8 +15,10 @@ use Rattle.algorithm_texts.specs.Drafts.{LineForm, PlacedLine, Drafted}
 use Rattle.algorithm_texts.specs.FinishedDrafts.{is_label_in, jumps_led, with_lines, call_led, call_in, led_where, kind_led}
 use Rattle.algorithm_texts.specs.Lawful.{LabelsDiffer, IsInLoop, LineFits, LinesFit, KindFits}
 use Rattle.algorithm_texts.specs.Runs.{AllRuns, KindRuns, RunsFit}
+use Rattle.algorithm_texts.specs.TextFaults.{LabelNewAt, number_at}
 use Rattle.algorithm_texts.specs.Usage.{reads, sets, begins_loop, ends_loop, uses, passes_where, passes_at}
 use Rattle.algorithm_texts.proofs.BlockTrees.{some_of}
+use Rattle.algorithm_texts.proofs.CallFaults.{jumps_numbers}
 use Rattle.algorithm_texts.proofs.RunMarks.{below_next, true_or_false, both_true, either, or_left, or_right}
 use Rattle.algorithm_texts.proofs.Uses.{jumps_uses}
 
@@ -29,14 +31,20 @@ pub record Redirects (d now : Drafted) : Type 0 where
   pub lines : List PlacedLine
   pub is : now ≡ with_lines lines d
   pub same : uses lines ≡ uses d.lines
+  pub numbers : (k : ℕ) → number_at lines k ≡ number_at d.lines k
 
 pub call_redirects : (d now : Drafted) (call : CallRead) → call_led d call ≡ Some now → Redirects d now
 call_redirects d now call e =
     let y = some_of (jumps_led d.labels d.blocks call d.jumps d.lines) (λ lines. Some (with_lines lines d)) now e in
-    record { lines = y.0; is = sym (same_Some (with_lines y.0 d) now y.2); same = jumps_uses d.labels d.blocks call d.jumps d.lines y.0 y.1 }
+    record {
+      lines = y.0;
+      is = sym (same_Some (with_lines y.0 d) now y.2);
+      same = jumps_uses d.labels d.blocks call d.jumps d.lines y.0 y.1;
+      numbers = jumps_numbers d.labels d.blocks call d.jumps d.lines y.0 y.1;
+    }
 
 pub where_redirects : (d now : Drafted) (o : Option CallRead) → led_where d o ≡ Some now → Redirects d now
-where_redirects d now None e = record { lines = d.lines; is = sym (same_Some d now e); same = refl }
+where_redirects d now None e = record { lines = d.lines; is = sym (same_Some d now e); same = refl; numbers = λ k. refl }
 where_redirects d now (Some call) e = call_redirects d now call e
 
 fits_with : (d : Drafted) (lines : List PlacedLine) → uses lines ≡ uses d.lines → (read : CallRead) → LinesFit d read → LinesFit (with_lines lines d) read
@@ -53,16 +61,23 @@ kind_stays d now kind other e h =
 
 -- ---- labels
 
+-- a label that is the first of its name is new, where those before it are too
+pub label_new : (labels : List Label) (call : CallRead) (n : ℕ) → ((j : ℕ) (b : Label) → j < n → slice_get labels j ≡ Some b → is_label_in call b ≡ true
+    → position (λ label. bytes_eq label.name b.name && is_label_in call label) labels ≡ Some j)
+    → (j : ℕ) → j < n → LabelNewAt labels call j
+label_new labels call n all j near = λ i a b less ea eb ina inb same.
+    let p = position-Some (λ label. bytes_eq label.name b.name && is_label_in call label) labels j a (all j b near eb inb) in
+    let at : get_or labels i a ≡ a = get_or_from_slice_get labels i a a ea in
+    both_ways (bytes_eq a.name b.name && is_label_in call a) (sym (ap (λ label. bytes_eq label.name b.name && is_label_in call label) at) ∙ p.2 i less) (and_true (bytes_eq a.name b.name) (is_label_in call a) same ina)
+
 -- labels that are each the first of their name differ
 pub labels_differ : (labels : List Label) (call : CallRead) (n : ℕ) → length labels ≤ n
     → ((j : ℕ) (b : Label) → j < n → slice_get labels j ≡ Some b → is_label_in call b ≡ true
     → position (λ label. bytes_eq label.name b.name && is_label_in call label) labels ≡ Some j)
     → LabelsDiffer labels call
-labels_differ labels call n whole all i j a b less ea eb ina inb same =
+labels_differ labels call n whole all i j a b less ea eb =
     let within : j < length labels = slice_get_within labels j b eb in
-    let p = position-Some (λ label. bytes_eq label.name b.name && is_label_in call label) labels j a (all j b (omega (arith, within, whole)) eb inb) in
-    let at : get_or labels i a ≡ a = get_or_from_slice_get labels i a a ea in
-    both_ways (bytes_eq a.name b.name && is_label_in call a) (sym (ap (λ label. bytes_eq label.name b.name && is_label_in call label) at) ∙ p.2 i less) (and_true (bytes_eq a.name b.name) (is_label_in call a) same ina)
+    label_new labels call n all j (omega (arith, within, whole)) i a b less ea eb
 
 later : (b : Bool) (n at : ℕ) → n ≤ at → cond (not b) (1 + n) 0 ≤ suc at
 later true n at h = omega arith
@@ -79,8 +94,8 @@ first_place test (y ∷ ys) (suc at) x e h =
     let k = first_place test ys at x e h in
     later (test y) (position_or_len test ys) at k
 
--- the first label of a name is the one that has it, where labels differ
-pub first_of_name : (labels : List Label) (call : CallRead) (at : ℕ) (label : Label) → LabelsDiffer labels call → slice_get labels at ≡ Some label → is_label_in call label ≡ true
+-- the first label of a name is the one that has it, where it is new
+pub first_of_name : (labels : List Label) (call : CallRead) (at : ℕ) (label : Label) → LabelNewAt labels call at → slice_get labels at ≡ Some label → is_label_in call label ≡ true
     → position (λ other. bytes_eq other.name label.name && is_label_in call other) labels ≡ Some at
 first_of_name labels call at label differ e h =
     let test : Label → Bool = λ other. bytes_eq other.name label.name && is_label_in call other in
@@ -92,7 +107,7 @@ first_of_name labels call at label differ e h =
     let p = position-Some test labels n label found in
     let parts = both_true (bytes_eq (get_or labels n label).name label.name) (is_label_in call (get_or labels n label)) p.1 in
     elim (true_or_false (ltb n at)) [
-      | inl t ↦ absurd (differ n at (get_or labels n label) label (ltb-true n at t) (slice_get-get_or labels n label p.0) e parts.1 h parts.0)
+      | inl t ↦ absurd (differ n (get_or labels n label) label (ltb-true n at t) (slice_get-get_or labels n label p.0) e parts.1 h parts.0)
       | inr f ↦
           let past : at ≤ n = ltb-false n at f in
           let same : n ≡ at = omega (arith, past, near) in

@@ -28,3 +28,8 @@ pub mod OneDraft
 pub mod LawfulRuns
 pub mod TextBeginnings
 pub mod Sayings
+pub mod RunFaults
+pub mod DraftFaults
+pub mod CallFaults
+pub mod RedirectFaults
+pub mod FormFaults

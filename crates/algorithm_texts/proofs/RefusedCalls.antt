@@ -46,7 +46,7 @@ labels_before d now call e h =
 pub labels_after : (d now : Drafted) (call : CallRead) → call_led d call ≡ Some now → LabelsDiffer d.labels call → LabelsDiffer now.labels call
 labels_after d now call e h = subst (λ ls. LabelsDiffer ls call) (sym (ap (λ x. x.labels) ((call_redirects d now call e).is))) h
 
-fits_before : (d : Drafted) (lines : List PlacedLine) → uses lines ≡ uses d.lines → (read : CallRead) → LinesFit (with_lines lines d) read → LinesFit d read
+pub fits_before : (d : Drafted) (lines : List PlacedLine) → uses lines ≡ uses d.lines → (read : CallRead) → LinesFit (with_lines lines d) read → LinesFit d read
 fits_before d lines same read h = record {
   labels = h.labels;
   lines = λ at inside. subst (λ us. LineFits us d.head.promises d.lasting (length d.names) read at) same (h.lines at inside);

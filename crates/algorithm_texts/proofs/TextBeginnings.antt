@@ -12,7 +12,7 @@ use Rattle.algorithm_texts.specs.TextLines.{second_said, spoken_of, RefusesLines
 use Rattle.algorithm_texts.proofs.BlockTrees.{some_of}
 use Rattle.algorithm_texts.proofs.Sound.{some_same}
 
-second_line : (o : Option Filled) (p : Promises) (number : ℕ) → second_said o ≡ Some (p, number)
+pub second_line : (o : Option Filled) (p : Promises) (number : ℕ) → second_said o ≡ Some (p, number)
     → (line : Filled) × (o ≡ Some line) × (read_promises line.tokens.all.items ≡ Some p) × (line.number ≡ number)
 second_line None p number e = absurd (cc)
 second_line (Some line) p number e =

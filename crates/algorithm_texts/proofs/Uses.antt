@@ -59,7 +59,7 @@ led_twice place (Beginning name members after) = refl
 led_twice place (Repeating name members body) = refl
 led_twice place (Ending answer) = refl
 
-leading_cons : (line : PlacedLine) (lines : List PlacedLine) (at place : ℕ) (o : Option PlacedLine)
+pub leading_cons : (line : PlacedLine) (lines : List PlacedLine) (at place : ℕ) (o : Option PlacedLine)
     → leading (line ∷ lines) (suc at) place o ≡ line ∷ leading lines at place o
 leading_cons line lines at place None = refl
 leading_cons line lines at place (Some other) = refl

@@ -6,7 +6,7 @@ use Rattle.algorithms.specs.declared.algorithm.Entries.{Entries}
 use Rattle.algorithms.specs.declared.algorithm.Promises.{Promises}
 use Rattle.algorithms.specs.declared.line.AccessLine.{AccessLine}
 use Rattle.algorithms.specs.declared.line.Action.{Action}
-use Rattle.algorithms.specs.declared.line.Action.TheVariants.{Load, Store, Await}
+use Rattle.algorithms.specs.declared.line.Action.TheVariants.{Load, Store, Await, Swap}
 use Rattle.algorithms.specs.declared.line.AlgorithmDeed.{AlgorithmDeed}
 use Rattle.algorithms.specs.declared.line.LineKind.{LineKind}
 use Rattle.algorithms.specs.declared.line.LineKind.TheVariants.{Access, Local, Done}
@@ -35,6 +35,7 @@ pub data DraftAction : Type 0 where
   Loading : ℕ → DraftAction
   Storing : Term → DraftAction
   Awaiting : ℕ → Formula → DraftAction
+  Swapping : ℕ → Term → Option Formula → Option Formula → DraftAction
 
 pub record AccessForm : Type 0 where
   pub word : SharedWord
@@ -64,6 +65,7 @@ abbrev pub act_of : Action → DraftAction
 act_of (Load name) = Loading name
 act_of (Store value) = Storing (term_of value)
 act_of (Await name until) = Awaiting name (formula_of until)
+act_of (Swap name value guard until) = Swapping name (term_of value) (option_map (λ c. formula_of c) guard) (option_map (λ c. formula_of c) until)
 
 abbrev pub access_of : AccessLine → AccessForm
 access_of a = record { word = word_of a.word; act = act_of a.action; may_withdraw = a.may_withdraw }

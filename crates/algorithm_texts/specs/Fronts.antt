@@ -132,6 +132,7 @@ ends_value token =
     || is_the_word (Some token) (codes "may")
     || is_the_word (Some token) (codes "this")
     || is_the_word (Some token) (codes "until")
+    || is_the_word (Some token) (codes "if")
     || is_the_word (Some token) (codes "done")
     || is_the_sign (Some token) Assign
     || is_the_sign (Some token) CloseIndex

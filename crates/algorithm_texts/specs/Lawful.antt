@@ -71,9 +71,13 @@ SetsFree d call at = SetsNoLoop (uses d.lines) (length d.names) call at
 abbrev pub LineFitsAt : Drafted → CallRead → ℕ → Type 0
 LineFitsAt d call at = LineFits (uses d.lines) d.head.promises d.lasting (length d.names) call at
 
+-- the line at a place is so, if it is one of the call
+abbrev pub LineFitsIn : Drafted → CallRead → ℕ → Type 0
+LineFitsIn d call at = is_within (call.«from», call.to) at ≡ true → LineFitsAt d call at
+
 -- each line of the call is so
 abbrev pub AllLinesFit : Drafted → CallRead → Type 0
-AllLinesFit d call = (at : ℕ) → is_within (call.«from», call.to) at ≡ true → LineFitsAt d call at
+AllLinesFit d call = (at : ℕ) → LineFitsIn d call at
 
 pub record LinesFit (d : Drafted) (call : CallRead) : Type 0 where
   pub labels : LabelsDiffer d.labels call

@@ -19,3 +19,4 @@ pub mod Lawful
 pub mod Blocks
 pub mod Programs
 pub mod Sayings
+pub mod TextFaults

@@ -1,5 +1,5 @@
 -- Reading the lines of a call from the left: what each of them makes of a draft, or None where it is refused.
-use Rattle.std.specs.Prelude.{◌≡◌, ℕ, ◌+◌, nat_lt, nat_eq, Bool, true, false, ◌||◌, List, [], ◌∷◌, ◌++◌, length, drop, slice_get, slice_set, Option, Some, None, Result, Ok, Err, if◌then◌else◌, codes, bytes_eq, position}
+use Rattle.std.specs.Prelude.{◌≡◌, ℕ, ◌+◌, nat_lt, nat_eq, Bool, true, false, not, ◌&&◌, ◌||◌, List, [], ◌∷◌, ◌++◌, length, drop, slice_get, slice_set, Option, Some, None, Result, Ok, Err, if◌then◌else◌, codes, bytes_eq, position}
 use Rattle.algorithms.specs.declared.fault.ReadFault.{ReadFault}
 use Rattle.algorithms.specs.declared.line.Members.{Members}
 use Rattle.algorithm_texts.specs.declared.lines.Block.{Block}
@@ -13,7 +13,7 @@ use Rattle.algorithm_texts.specs.Grammar.{Scope, is_among, private_name_part}
 use Rattle.algorithm_texts.specs.Operands.{reserved, RefusesOperand}
 use Rattle.algorithm_texts.specs.Stacks.{read_part}
 use Rattle.algorithm_texts.specs.Fronts.{is_the_word, is_the_sign, letters_of, value_if, past_word, past_sign, is_over, deed_said, members_said, past_withdraw, value_tokens, value_rest, begins_no_simple}
-use Rattle.algorithm_texts.specs.Drafts.{SharedWord, DraftAction, Loading, Storing, Awaiting, LineForm, Accessing, Assigning, Noting, Going, Branching, Beginning, Repeating, Ending, leading, Drafted}
+use Rattle.algorithm_texts.specs.Drafts.{SharedWord, DraftAction, Loading, Storing, Awaiting, Swapping, LineForm, Accessing, Assigning, Noting, Going, Branching, Beginning, Repeating, Ending, leading, Drafted}
 
 -- what a function makes of a draft is what the definition gives, where that is something
 abbrev pub Drafts : {A : Type 0} → Drafted → Result A ReadFault → Option Drafted → Type 0
@@ -49,6 +49,13 @@ new_name_in word = if is_constant word then None else if is_among reserved word 
 
 abbrev pub new_name : Option Token → Option (List ℕ)
 new_name token = letters_of token >>= new_name_in
+
+-- a word that may be a name: no word of the format
+abbrev pub is_name : Option Token → Bool
+is_name None = false
+is_name (Some (Number n)) = false
+is_name (Some (Word letters)) = not (is_among reserved letters)
+is_name (Some (Sign sign)) = false
 
 -- a private name that a line sets, as a part, and the names after it
 abbrev pub name_set : Scope → List (List ℕ) → Option Token → Option (OperandPart × List (List ℕ))
@@ -117,6 +124,60 @@ read_until scope names tokens = do
   c ← read_condition scope names (value_tokens inner)
   Some (c.0, value_rest inner, c.1)
 
+-- ---- swaps: `swap WORD to VALUE if CONDITION`, the condition where there is one
+
+-- a swap comes next: the word `swap`, which is a name elsewhere, with a name after it
+abbrev pub begins_swap : List Token → Bool
+begins_swap tokens = is_the_word (slice_get tokens 0) (codes "swap") && is_name (slice_get tokens 1)
+
+abbrev pub read_guard_condition : Scope → List (List ℕ) → List Token → Option (Option Formula × List Token × List (List ℕ))
+read_guard_condition scope names tokens = do
+  c ← read_condition scope names (value_tokens tokens)
+  Some (Some c.0, value_rest tokens, c.1)
+
+-- `if CONDITION`, where it comes next, the tokens after it, and the names
+abbrev pub read_guard : Scope → List (List ℕ) → List Token → Option (Option Formula × List Token × List (List ℕ))
+read_guard scope names tokens =
+    if is_the_word (slice_get tokens 0) (codes "if") then read_guard_condition scope names (drop 1 tokens) else Some (None, tokens, names)
+
+-- `to VALUE if CONDITION`: what a swap stores, and where; the tokens after it, and the names
+abbrev pub read_swap_value : Scope → List (List ℕ) → List Token → Option (Term × Option Formula × List Token × List (List ℕ))
+read_swap_value scope names tokens = do
+  inner ← past_word tokens (codes "to")
+  v ← read_value scope names (value_tokens inner)
+  guard ← read_guard scope v.1 (value_rest inner)
+  Some (v.0, guard.0, guard.1, guard.2)
+
+-- `to VALUE if CONDITION` after `NAME := swap WORD`
+abbrev pub read_swap_word : Drafted → ℕ → SharedWord → List Token → Option Drafted
+read_swap_word d name word tokens = do
+  r ← read_swap_value (scope_in d) d.names tokens
+  read_access (with_names r.3 d) word (Swapping name r.0 r.1 None) r.2
+
+-- `WORD to VALUE if CONDITION` after `NAME := swap`
+abbrev pub read_swap : Drafted → ℕ → List Token → Option Drafted
+read_swap d name tokens = do
+  word ← read_word (scope_in d) d.each d.names tokens
+  read_swap_word (with_names word.2 d) name word.0 word.1
+
+-- `until CONDITION` after `await NAME := swap WORD to VALUE if CONDITION`
+abbrev pub read_await_swap : Drafted → SharedWord → ℕ → Term → Option Formula → List Token → Option Drafted
+read_await_swap d word name value guard tokens = do
+  until ← read_until (scope_in d) d.names tokens
+  read_access (with_names until.2 d) word (Swapping name value guard (Some until.0)) until.1
+
+-- `to VALUE if CONDITION until CONDITION` after `await NAME := swap WORD`
+abbrev pub read_await_swap_word : Drafted → ℕ → SharedWord → List Token → Option Drafted
+read_await_swap_word d name word tokens = do
+  r ← read_swap_value (scope_in d) d.names tokens
+  read_await_swap (with_names r.3 d) word name r.0 r.1 r.2
+
+-- `WORD to VALUE if CONDITION until CONDITION` after `await NAME := swap`
+abbrev pub read_awaited_swap : Drafted → ℕ → List Token → Option Drafted
+read_awaited_swap d name tokens = do
+  word ← read_word (scope_in d) d.each d.names tokens
+  read_await_swap_word (with_names word.2 d) name word.0 word.1
+
 -- ---- statements that are no blocks
 
 abbrev pub read_awaited_word : Drafted → ℕ → SharedWord → List Token → Option Drafted
@@ -124,10 +185,13 @@ read_awaited_word d name word tokens = do
   until ← read_until (scope_in d) d.names tokens
   read_access (with_names until.2 d) word (Awaiting name until.0) until.1
 
-abbrev pub read_awaited : Drafted → ℕ → List Token → Option Drafted
-read_awaited d name tokens = do
+abbrev pub read_awaited_load : Drafted → ℕ → List Token → Option Drafted
+read_awaited_load d name tokens = do
   word ← read_word (scope_in d) d.each d.names tokens
   read_awaited_word (with_names word.2 d) name word.0 word.1
+
+abbrev pub read_awaited : Drafted → ℕ → List Token → Option Drafted
+read_awaited d name tokens = if begins_swap tokens then read_awaited_swap d name (drop 1 tokens) else read_awaited_load d name tokens
 
 abbrev pub read_await_of : Drafted → ℕ → List Token → Option Drafted
 read_await_of d name tokens = do
@@ -172,7 +236,9 @@ read_assigned_value d name tokens = do
 
 abbrev pub read_assigned : Drafted → ℕ → List Token → Option Drafted
 read_assigned d name tokens =
-    if begins_word d.declared (slice_get tokens 0) (slice_get tokens 1) then read_load d name tokens else read_assigned_value d name tokens
+    if begins_swap tokens then read_swap d name (drop 1 tokens)
+    else if begins_word d.declared (slice_get tokens 0) (slice_get tokens 1) then read_load d name tokens
+    else read_assigned_value d name tokens
 
 abbrev pub read_set_to : Drafted → ℕ → List Token → Option Drafted
 read_set_to d name tokens = do

@@ -108,10 +108,14 @@ abbrev pub ReturnsSilently : Drafted → CallRead → ℕ → Type 0
 ReturnsSilently d call at =
     (before : ℕ) × RunComesTo d call Silent (λ first. first ≡ at) before × (leads_to (ways_from d call Silent before) at ≡ true)
 
--- runs of a call come to each line of the text
+-- runs of a call come to the line at this place, if the text has it
+abbrev pub LineReachedAt : Drafted → CallRead → ℕ → Type 0
+LineReachedAt d call at =
+    is_within (call.«from», call.to) at ≡ true → passes_at (is_own d.jumps at) (uses d.lines) at ≡ true → IsPlaceReached d call at
+
+-- so they do to each line of the text
 abbrev pub EachIsReached : Drafted → CallRead → Type 0
-EachIsReached d call =
-    (at : ℕ) → is_within (call.«from», call.to) at ≡ true → passes_at (is_own d.jumps at) (uses d.lines) at ≡ true → IsPlaceReached d call at
+EachIsReached d call = (at : ℕ) → LineReachedAt d call at
 
 -- runs of a call come to its lines alone
 abbrev pub RunsStay : Drafted → CallRead → Type 0
@@ -123,6 +127,10 @@ pub record ReadsUnset (d : Drafted) (call : CallRead) (name at : ℕ) : Type 0 w
   pub reads_it : passes_at (reads name) (uses d.lines) at ≡ true
   pub unset : IsReachedWithout d call name at
 
+-- runs of a call that come to this place have set each name that it reads
+abbrev pub NamesSetAt : Drafted → CallRead → ℕ → Type 0
+NamesSetAt d call at = (name : ℕ) → name < length d.names → ReadsUnset d call name at → ⊥
+
 -- runs of a call have set each name before they read it
 abbrev pub RunsSet : Drafted → CallRead → Type 0
 RunsSet d call = (name at : ℕ) → name < length d.names → ReadsUnset d call name at → ⊥
@@ -131,10 +139,13 @@ RunsSet d call = (name at : ℕ) → name < length d.names → ReadsUnset d call
 abbrev pub NoneReturns : Drafted → CallRead → Type 0
 NoneReturns d call = (at : ℕ) → IsPlaceReached d call at → ReturnsSilently d call at → ⊥
 
--- runs of a call make an access before the first end or deed
+-- runs of a call make an access before the end or the deed at this place, if one stands there
+abbrev pub StepFirstAt : Drafted → CallRead → ℕ → Type 0
+StepFirstAt d call at = is_within (call.«from», call.to) at ≡ true → passes_at is_seen (uses d.lines) at ≡ true → IsReachedSilently d call at → ⊥
+
+-- so they do before the first end or deed
 abbrev pub StepsComeFirst : Drafted → CallRead → Type 0
-StepsComeFirst d call =
-    (at : ℕ) → is_within (call.«from», call.to) at ≡ true → passes_at is_seen (uses d.lines) at ≡ true → IsReachedSilently d call at → ⊥
+StepsComeFirst d call = (at : ℕ) → StepFirstAt d call at
 
 pub record RunsFit (d : Drafted) (call : CallRead) : Type 0 where
   pub reached : EachIsReached d call

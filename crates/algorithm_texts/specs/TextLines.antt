@@ -88,7 +88,3 @@ IsAt fault line = (fault ≡ OutOfMemory) ⊎ ((number : ℕ) × (fault ≡ At l
 -- a fault is at the first line with which this is no longer so, or memory runs out
 abbrev pub IsFirstFaultyLine : AlgorithmFault → (ℕ → Type 0) → Type 0
 IsFirstFaultyLine fault Upto = (fault ≡ OutOfMemory) ⊎ ((line number : ℕ) × (fault ≡ At line number) × Upto line × (Upto (line + 1) → ⊥))
-
--- a text says tokens, or the fault is at the first line with which it no longer does
-abbrev pub IsFaultOfLines : List ℕ → AlgorithmFault → Type 0
-IsFaultOfLines text fault = ((spoken : List Spoken) × TextSays text spoken) ⊎ IsFirstFaultyLine fault (SaysUpTo text)

@@ -8,7 +8,7 @@ use Rattle.algorithms.specs.declared.line.AlgorithmDeed.TheVariants.{Begin, Read
 use Rattle.algorithm_texts.specs.declared.usage.Usage.{Usage}
 use Rattle.algorithm_texts.specs.declared.usage.Usage.TheVariants.{Reads, Sets, Begins, Ends}
 use Rattle.algorithm_texts.specs.Parts.{Term, Private, Joined, Formula, Compare, ComparePairs, Both, Either, Negated}
-use Rattle.algorithm_texts.specs.Drafts.{DraftAction, Loading, Storing, Awaiting, LineForm, Accessing, Assigning, Noting, Branching, Beginning, Repeating, PlacedLine, form_with_place}
+use Rattle.algorithm_texts.specs.Drafts.{DraftAction, Loading, Storing, Awaiting, Swapping, LineForm, Accessing, Assigning, Noting, Branching, Beginning, Repeating, PlacedLine, form_with_place}
 use Rattle.algorithm_texts.specs.TextDrafts.{call_number}
 
 -- ---- names
@@ -29,11 +29,17 @@ abbrev pub index_reads : ℕ → Option Term → Bool
 index_reads name None = false
 index_reads name (Some index) = term_reads name index
 
--- an `await` reads its name after it has set it
+abbrev pub formula_reads_if : ℕ → Option Formula → Bool
+formula_reads_if name None = false
+formula_reads_if name (Some condition) = formula_reads name condition
+
+-- an `await` and a `swap` read their name after they have set it
 abbrev pub act_reads : ℕ → DraftAction → Bool
 act_reads name (Loading k) = false
 act_reads name (Storing value) = term_reads name value
 act_reads name (Awaiting k until) = not (nat_eq k name) && formula_reads name until
+act_reads name (Swapping k value guard until) =
+    not (nat_eq k name) && (term_reads name value || formula_reads_if name guard || formula_reads_if name until)
 
 -- a line reads this name before it sets it
 abbrev pub reads : ℕ → LineForm → Bool
@@ -47,6 +53,7 @@ abbrev pub act_sets : ℕ → DraftAction → Bool
 act_sets name (Loading k) = nat_eq k name
 act_sets name (Storing value) = false
 act_sets name (Awaiting k until) = nat_eq k name
+act_sets name (Swapping k value guard until) = nat_eq k name
 
 -- a line sets this name, which is not that of its loop
 abbrev pub sets : ℕ → LineForm → Bool

@@ -1,9 +1,15 @@
 //! The labels, the names, the deeds and the withdraws of a call that was read.
 
-ghost use Rattle.std.specs.Prelude.{◌≡◌, ◌&&◌, ◌||◌, ◌≤◌, ◌↔◌, true, false, not, map, slice_get, bytes_eq, position, Some, None, OnOk, OnErr, IsTrue};
+ghost use Rattle.std.specs.Prelude.{◌≡◌, ◌&&◌, ◌||◌, ◌≤◌, ◌↔◌, true, false, not, map, slice_get, bytes_eq, position, Some, None, IfErr, OnOk, OnErr, IsTrue, is_some};
+ghost use Rattle.std.specs.List.{find};
+ghost use Rattle.algorithms.specs.Faults.{fault_of};
+ghost use Rattle.algorithms.specs.declared.fault.ReadFault.{ReadFault};
+ghost use Rattle.algorithms.specs.declared.fault.ReadFault.TheVariants.{UnknownName, NotAssignable, BadLabel};
+ghost use Rattle.algorithm_texts.specs.declared.lines.Jump.{Jump};
 ghost use Rattle.algorithm_texts.specs.Drafts.{Drafted, draft_view, form_of, form_with_place, line_of};
 ghost use Rattle.algorithm_texts.specs.FinishedDrafts.{is_label_in, label_named, is_within, reachable_place, target_of, jump_led, jumps_led, call_led};
 ghost use Rattle.algorithm_texts.specs.Lawful.{LabelsDiffer, HasLine, IsInLoop, IsKnown, ReadsKnown, SetsFree, LineFitsAt, AllLinesFit, LinesFit};
+ghost use Rattle.algorithm_texts.specs.TextFaults.{IsFaultOfCall, IsFaultOfJump, IsFaultOfLabel, IsFaultOfLine, IsUnfit, leads_nowhere, number_at, unfit_kind};
 ghost use Rattle.algorithm_texts.specs.Usage.{begins_loop, ends_loop, has_usage, deed_fits, fits, uses, passes_at};
 
 use crate::lines::{CallRead, Draft, Jump, Label, lead_line};
@@ -89,7 +95,9 @@ fn target(labels: &[Label], blocks: &[(usize, usize)], call: CallRead, jump: Jum
 }
 
 /// The number of the line at a place.
-fn number_at(lines: &[AlgorithmLine], place: usize) -> u64 {
+pub fn number_at(lines: &[AlgorithmLine], place: usize) -> u64
+    ensures { result ≡ number_at (map line_of lines.now) place }
+{
     match lines.get(place) {
         Some(line) => line.number,
         None => 0,
@@ -107,6 +115,9 @@ fn lead(
     ensures ok { OnOk result (jump_led labels.now blocks.now call (map line_of lines.old.items) jump
         ≡ Some (map line_of lines.new.items)) }
     ensures err { OnErr result (jump_led labels.now blocks.now call (map line_of lines.old.items) jump ≡ None) }
+    ensures leads { OnOk result (is_some (target_of labels.now blocks.now call jump) ≡ true) }
+    ensures named { IfErr result (λ fault. (target_of labels.now blocks.now call jump ≡ None)
+        × (fault ≡ fault_of (number_at (map line_of lines.old.items) jump.place) BadLabel)) }
 {
     let place = jump.place;
     match target(labels, blocks, call, jump) {
@@ -129,6 +140,8 @@ fn resolve(
     ensures ok { OnOk result (jumps_led labels.now blocks.now call jumps.now (map line_of lines.old.items)
         ≡ Some (map line_of lines.new.items)) }
     ensures err { OnErr result (jumps_led labels.now blocks.now call jumps.now (map line_of lines.old.items) ≡ None) }
+    ensures named { IfErr result (λ fault. (jump : Jump) × (find (leads_nowhere labels.now blocks.now call) jumps.now ≡ Some jump)
+        × (fault ≡ fault_of (number_at (map line_of lines.old.items) jump.place) BadLabel)) }
 {
     for jump in jumps {
         if is_within((call.from, call.to), jump.place) {
@@ -142,6 +155,7 @@ fn resolve(
 fn check_deed(promises: Promises, call: AlgorithmCall, form: &LineKind) -> Result<(), ReadFault>
     ensures ok { OnOk result (fits promises call (form_of form.now) ≡ true) }
     ensures err { OnErr result (fits promises call (form_of form.now) ≡ false) }
+    ensures named { IfErr result (λ fault. fault ≡ unfit_kind (form_of form.now)) }
 {
     match form {
         LineKind::Local(LocalLine::Note(deed)) => {
@@ -167,6 +181,7 @@ impl Draft {
     fn check_labels(&self, call: CallRead) -> Result<(), AlgorithmFault>
         ensures ok { OnOk result (LabelsDiffer (draft_view self.now).labels call) }
         ensures err { OnErr result (LabelsDiffer (draft_view self.now).labels call → ⊥) }
+        ensures first { IfErr result (λ fault. IsFaultOfLabel (draft_view self.now).labels call fault) }
     {
         for (at, label) in self.labels.iter().enumerate() {
             if is_in(label, call)
@@ -244,6 +259,7 @@ impl Draft {
         requires { call.«from» ≤ place }
         ensures ok { OnOk result (ReadsKnown (draft_view self.now) call place) }
         ensures err { OnErr result (ReadsKnown (draft_view self.now) call place → ⊥) }
+        ensures named { IfErr result (λ fault. fault ≡ UnknownName) }
     {
         for name in 0..self.algorithm.names.len() {
             if self.uses_at(Usage::Reads, name, place) && !self.is_known(call, name, place) {
@@ -257,6 +273,7 @@ impl Draft {
     fn check_loops(&self, call: CallRead, place: usize) -> Result<(), ReadFault>
         ensures ok { OnOk result (SetsFree (draft_view self.now) call place) }
         ensures err { OnErr result (SetsFree (draft_view self.now) call place → ⊥) }
+        ensures named { IfErr result (λ fault. fault ≡ NotAssignable) }
     {
         for name in 0..self.algorithm.names.len() {
             if self.uses_at(Usage::Sets, name, place) && self.has_line(call, Usage::Begins, name) {
@@ -272,6 +289,7 @@ impl Draft {
         requires there { slice_get (uses (draft_view self.now).lines) place ≡ Some (form_with_place 0 (form_of form.now)) }
         ensures ok { OnOk result (LineFitsAt (draft_view self.now) call place) }
         ensures err { OnErr result (LineFitsAt (draft_view self.now) call place → ⊥) }
+        ensures named { IfErr result (λ fault. IsUnfit (draft_view self.now) call place fault) }
     {
         self.check_read(call, place)?;
         self.check_loops(call, place)?;
@@ -283,6 +301,8 @@ impl Draft {
         requires { call.«from» ≤ place }
         ensures ok { OnOk result (LineFitsAt (draft_view self.now) call place) }
         ensures err { OnErr result (LineFitsAt (draft_view self.now) call place → ⊥) }
+        ensures named { IfErr result (λ fault. (kind : ReadFault) × IsUnfit (draft_view self.now) call place kind
+            × (fault ≡ fault_of (number_at (draft_view self.now).lines place) kind)) }
     {
         match self.algorithm.lines.get(place) {
             Some(line) => match self.check_form(call, place, &line.form) {
@@ -297,6 +317,7 @@ impl Draft {
     fn check_lines(&self, call: CallRead) -> Result<(), AlgorithmFault>
         ensures ok { OnOk result (AllLinesFit (draft_view self.now) call) }
         ensures err { OnErr result (AllLinesFit (draft_view self.now) call → ⊥) }
+        ensures first { IfErr result (λ fault. IsFaultOfLine (draft_view self.now) call fault) }
     {
         for place in call.from..call.to {
             self.check_line(call, place)?;
@@ -308,6 +329,7 @@ impl Draft {
     fn lead_jumps(&mut self, call: CallRead) -> Result<(), AlgorithmFault>
         ensures ok { OnOk result (call_led (draft_view self.old) call ≡ Some (draft_view self.new)) }
         ensures err { OnErr result (call_led (draft_view self.old) call ≡ None) }
+        ensures first { IfErr result (λ fault. IsFaultOfJump (draft_view self.old) call fault) }
     {
         resolve(
             &mut self.algorithm.lines,
@@ -323,6 +345,7 @@ impl Draft {
         ensures led { OnOk result (call_led (draft_view self.old) call ≡ Some (draft_view self.new)) }
         ensures fits { OnOk result (LinesFit (draft_view self.new) call) }
         ensures err { OnErr result ((d : Drafted) → call_led (draft_view self.old) call ≡ Some d → LinesFit d call → ⊥) }
+        ensures first { IfErr result (λ fault. IsFaultOfCall (draft_view self.old) call fault) }
     {
         self.check_labels(call)?;
         self.lead_jumps(call)?;

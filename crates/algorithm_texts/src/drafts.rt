@@ -1,10 +1,11 @@
 //! The draft of a text: its lines, and what they say.
 
-ghost use Rattle.std.specs.Prelude.{◌≡◌, ◌==◌, ◌≤◌, ℕ, ◌++◌, ◌∷◌, [], List, position, map, length, drop, slice_get, Some, None, Ok, IfOk, IfErr, OnOk, IfSome, IfNone, true};
+ghost use Rattle.std.specs.Prelude.{◌≡◌, ◌⊎◌, ◌==◌, ◌≤◌, ℕ, ◌++◌, ◌∷◌, [], List, position, map, length, drop, slice_get, Some, None, Ok, IfOk, IfErr, OnOk, IfSome, IfNone, true};
 ghost use Rattle.std.specs.List.{list_all};
 ghost use Rattle.algorithm_texts.specs.Drafts.{Drafted, draft_view};
-ghost use Rattle.algorithm_texts.specs.TextLines.{IsAt, IsFaultOfLines, IsFirstFaultyLine, IsRefusalOf, RefusesLines, SaysTokens, SaysUpTo, TextSays, and_line, is_no_feed, second_said, spoken_of};
-ghost use Rattle.algorithm_texts.specs.TextDrafts.{IsEmpty, Spoken, empty_draft, read_head, read_lines, read_text};
+ghost use Rattle.algorithm_texts.specs.TextLines.{IsAt, IsFirstFaultyLine, IsRefusalOf, RefusesLines, SaysTokens, SaysUpTo, TextSays, and_line, is_no_feed, second_said, spoken_of};
+ghost use Rattle.algorithm_texts.specs.TextDrafts.{IsEmpty, Spoken, empty_draft, read_head, read_line, read_lines, read_promises, read_text, with_number};
+ghost use Rattle.algorithm_texts.specs.TextFaults.{BeginsDraft, IsFaultOfForms, IsFaultOfHead, IsFaultOfLater, IsFaultOfSecond, OrMemory, StopsOnLine};
 ghost use Rattle.algorithm_texts.specs.Tokens.{LineSays};
 
 use crate::calls::{head, promises};
@@ -103,6 +104,7 @@ fn lines_of(alloc: Global, text: &[u8]) -> Result<Vec<Filled>, AlgorithmFault>
 fn second_line(lines: &[Filled], first: u64) -> Result<(Promises, u64), AlgorithmFault>
     ensures ok { IfOk result (λ second. second_said (slice_get lines.now 1) ≡ Some (second.0, second.1)) }
     ensures err { IfErr result (λ fault. second_said (slice_get lines.now 1) ≡ None) }
+    ensures first { IfErr result (λ fault. OrMemory fault (IsFaultOfSecond first (slice_get (map spoken_of lines.now) 1) fault)) }
 {
     match lines.get(1) {
         None => Err(ReadFault::NoHeader.at(first)),
@@ -114,6 +116,7 @@ fn second_line(lines: &[Filled], first: u64) -> Result<(Promises, u64), Algorith
 fn promises_of(line: &Filled) -> Result<(Promises, u64), AlgorithmFault>
     ensures ok { IfOk result (λ second. second_said (Some line.now) ≡ Some (second.0, second.1)) }
     ensures err { IfErr result (λ fault. second_said (Some line.now) ≡ None) }
+    ensures at { IfErr result (λ fault. OrMemory fault (StopsOnLine line.now.number (read_promises line.now.tokens.all.items) fault)) }
 {
     match promises(&line.tokens) {
         Ok(promises) => Ok((promises, line.number)),
@@ -126,6 +129,9 @@ fn draft(alloc: Global, lines: &[Filled]) -> Result<Draft, AlgorithmFault>
     ensures ok { IfOk result (λ draft.
         read_text (map spoken_of lines.now) ≡ read_lines (draft_view draft) (drop 2 (map spoken_of lines.now))) }
     ensures err { IfErr result (λ fault. RefusesLines fault (read_text (map spoken_of lines.now))) }
+    ensures begins { IfOk result (λ draft. BeginsDraft (map spoken_of lines.now) (draft_view draft)) }
+    ensures first { IfErr result (λ fault. OrMemory fault
+        (IsFaultOfHead (slice_get (map spoken_of lines.now) 0) (slice_get (map spoken_of lines.now) 1) fault)) }
 {
     let first = match lines.first() {
         Some(first) => first,
@@ -141,6 +147,7 @@ fn head_of(alloc: Global, line: &Filled) -> Result<Algorithm, AlgorithmFault>
     ensures ok { IfOk result (λ a. (h : List ℕ × ℕ × ℕ)
         × (read_head line.now.tokens.all.items ≡ Some h) × IsEmpty a h.0 h.1 h.2) }
     ensures err { IfErr result (λ fault. RefusesLines fault (read_head line.now.tokens.all.items)) }
+    ensures at { IfErr result (λ fault. OrMemory fault (StopsOnLine line.now.number (read_head line.now.tokens.all.items) fault)) }
 {
     match head(alloc, &line.tokens) {
         Ok(algorithm) => Ok(algorithm),
@@ -182,6 +189,11 @@ fn read_line(alloc: Global, draft: &mut Draft, line: &Filled) -> Result<(), Algo
         → read_lines (draft_view draft.old) (spoken_of line.now ∷ ss) ≡ read_lines (draft_view draft.new) ss) }
     ensures err { IfErr result (λ fault. (ss : List Spoken)
         → RefusesLines fault (read_lines (draft_view draft.old) (spoken_of line.now ∷ ss))) }
+    ensures made { OnOk result (read_line (with_number line.now.number (draft_view draft.old)) line.now.tokens.all.items
+        line.now.tokens.answer.items (draft_view draft.old).number ≡ Some (draft_view draft.new)) }
+    ensures first { IfErr result (λ fault. OrMemory fault (StopsOnLine line.now.number
+        (read_line (with_number line.now.number (draft_view draft.old)) line.now.tokens.all.items
+        line.now.tokens.answer.items (draft_view draft.old).number) fault)) }
 {
     let last = draft.number;
     draft.number = line.number;
@@ -195,6 +207,7 @@ fn read_line(alloc: Global, draft: &mut Draft, line: &Filled) -> Result<(), Algo
 fn end_calls(draft: &mut Draft) -> Result<(), AlgorithmFault>
     ensures ok { OnOk result (read_lines (draft_view draft.old) [] ≡ Some (draft_view draft.new)) }
     ensures err { IfErr result (λ fault. RefusesLines fault (read_lines (draft_view draft.old) [])) }
+    ensures first { IfErr result (λ fault. OrMemory fault (IsFaultOfForms (draft_view draft.old) [] fault)) }
 {
     let last = draft.number;
     match draft.end_call(last) {
@@ -207,6 +220,8 @@ fn end_calls(draft: &mut Draft) -> Result<(), AlgorithmFault>
 fn read_all(alloc: Global, draft: &mut Draft, lines: &[Filled]) -> Result<(), AlgorithmFault>
     ensures ok { OnOk result (read_lines (draft_view draft.old) (map spoken_of lines.now) ≡ Some (draft_view draft.new)) }
     ensures err { IfErr result (λ fault. RefusesLines fault (read_lines (draft_view draft.old) (map spoken_of lines.now))) }
+    ensures first { IfErr result (λ fault. OrMemory fault
+        (IsFaultOfForms (draft_view draft.old) (map spoken_of lines.now) fault)) }
 {
     for line in lines {
         read_line(alloc, draft, line)?;
@@ -220,7 +235,8 @@ pub fn forms(alloc: Global, text: &[u8]) -> Result<Draft, AlgorithmFault>
         × (read_text spoken ≡ Some (draft_view draft))) }
     ensures err { IfErr result (λ fault. IsRefusalOf fault ((spoken : List Spoken) × (draft : Drafted) × TextSays text.now spoken
         × (read_text spoken ≡ Some draft))) }
-    ensures first { IfErr result (λ fault. IsFaultOfLines text.now fault) }
+    ensures first { IfErr result (λ fault. OrMemory fault
+        (IsFirstFaultyLine fault (SaysUpTo text.now) ⊎ IsFaultOfLater text.now fault)) }
 {
     let lines = lines_of(alloc, text)?;
     let mut draft = draft(alloc, lines.as_slice())?;

@@ -4,6 +4,7 @@
 //! Main items: `read_algorithm`, `flow`, `laws`.
 #![tactic(auto)]
 
+mod accesses;
 mod blocks;
 mod calls;
 mod checks;

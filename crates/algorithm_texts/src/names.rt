@@ -6,7 +6,7 @@ ghost use Rattle.std.specs.Option.{option_copied};
 ghost use Rattle.algorithm_texts.specs.Grammar.{is_among, private_name_part};
 ghost use Rattle.algorithm_texts.specs.Operands.{MakesName, names_of, declared_of, scope_of, reserved};
 ghost use Rattle.algorithms.specs.declared.fault.ReadFault.TheVariants.{OutOfMemory as NoMemory};
-ghost use Rattle.algorithm_texts.specs.LineDrafts.{is_constant, new_name, name_set};
+ghost use Rattle.algorithm_texts.specs.LineDrafts.{is_constant, is_name, new_name, name_set};
 ghost use Rattle.algorithm_texts.specs.TextDrafts.{undeclared_name};
 
 use crate::tokens::{LineWord, Token};
@@ -126,6 +126,16 @@ pub fn new_name(token: Option<&Token>) -> Result<LineWord, ReadFault>
             }
         }
         Some(Token::Sign(_) | Token::Number(_)) | None => Err(ReadFault::BadForm),
+    }
+}
+
+/// Whether it is a word that may be a name: no word of the format.
+pub fn is_name(token: Option<&Token>) -> bool
+    ensures { result ≡ is_name (option_copied token.entry) }
+{
+    match token {
+        Some(Token::Word(word)) => !is_reserved(word.as_bytes()),
+        Some(Token::Sign(_) | Token::Number(_)) | None => false,
     }
 }
 

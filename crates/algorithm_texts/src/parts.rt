@@ -75,6 +75,7 @@ fn ends_value(token: &Token) -> bool
         || is_word(Some(token), b"may")
         || is_word(Some(token), b"this")
         || is_word(Some(token), b"until")
+        || is_word(Some(token), b"if")
         || is_word(Some(token), b"done")
         || is_sign(Some(token), Sign::Assign)
         || is_sign(Some(token), Sign::CloseIndex)

@@ -2,12 +2,15 @@
 
 ghost use Rattle.std.specs.Prelude.{◌≡◌, ◌⊎◌, ◌+◌, ◌<◌, ◌≤◌, ◌&&◌, ℕ, true, false, not, Some, [], OnOk, OnErr, IfErr, MatchBool, length, slice_set, if◌then◌else◌};
 ghost use Rattle.std.specs.List.{list_any};
+ghost use Rattle.algorithms.specs.Faults.{fault_of};
+ghost use Rattle.algorithms.specs.declared.fault.ReadFault.TheVariants.{Endless};
 ghost use Rattle.algorithm_texts.specs.declared.flow.RunKind.TheVariants.{All};
 ghost use Rattle.algorithm_texts.specs.Drafts.{draft_view};
 ghost use Rattle.algorithm_texts.specs.FinishedDrafts.{is_in, is_within};
 ghost use Rattle.algorithm_texts.specs.Marks.{KeepsMarks, MarksReached, and_then, places_of_ways};
 ghost use Rattle.algorithm_texts.specs.Rounds.{LeadOn, LocalMarked, RoundsMarked, count_marks, is_loose, leads_on};
 ghost use Rattle.algorithm_texts.specs.Runs.{NoneReturns, is_access, leads_to, ways_from};
+ghost use Rattle.algorithm_texts.specs.TextFaults.{IsFaultOfRounds, OrMemory};
 ghost use Rattle.algorithm_texts.specs.TextLines.{IsRefusalOf};
 ghost use Rattle.algorithm_texts.specs.Usage.{uses, passes_at};
 
@@ -165,6 +168,7 @@ impl Draft {
         requires { MarksReached (draft_view self.now) call reached.now }
         ensures ok { OnOk result (NoneReturns (draft_view self.now) call) }
         ensures err { IfErr result (λ fault. IsRefusalOf fault (NoneReturns (draft_view self.now) call)) }
+        ensures first { IfErr result (λ fault. OrMemory fault (IsFaultOfRounds (draft_view self.now) call fault)) }
     {
         let mut left = self.marks_from(alloc, call, false)?;
         let mut followed = self.marks_from(alloc, call, false)?;
@@ -219,10 +223,11 @@ impl Draft {
     fn check_none(&self, call: CallRead, left: &[bool]) -> Result<(), AlgorithmFault>
         ensures ok { OnOk result ((at : ℕ) → is_within (call.«from», call.to) at ≡ true → is_in left.now at ≡ true → ⊥) }
         ensures err { OnErr result ((at : ℕ) × (is_within (call.«from», call.to) at ≡ true) × (is_in left.now at ≡ true)) }
+        ensures named { IfErr result (λ fault. (line : ℕ) × (fault ≡ fault_of line Endless)) }
     {
         for place in call.from..call.to {
             if is_in(left, place) {
-                return Err(ReadFault::Endless.at(self.number_in(call, place)));
+                return Err(self.fault_at(ReadFault::Endless, place));
             }
         }
         Ok(())

@@ -1,16 +1,19 @@
 //! What the runs of a call may do: which lines they come to, which names they have set, and when they make an access.
 
-ghost use Rattle.std.specs.Prelude.{◌≡◌, ◌⊎◌, ◌<◌, ℕ, true, false, None, Some, [], OnOk, OnErr, IfOk, IfErr, IfSome, IsTrue, IsFalse, MatchBool, MatchOption};
+ghost use Rattle.std.specs.Prelude.{◌≡◌, ◌⊎◌, ◌<◌, ◌≤◌, ℕ, true, false, None, Some, [], OnOk, OnErr, IfOk, IfErr, IfSome, IsTrue, IsFalse, MatchBool, MatchOption};
 ghost use Rattle.std.specs.List.{All as AllOf, list_all};
+ghost use Rattle.algorithms.specs.Faults.{fault_of};
+ghost use Rattle.algorithms.specs.declared.fault.ReadFault.TheVariants.{NeverReached, NoStep, Unset};
 ghost use Rattle.algorithm_texts.specs.declared.flow.RunKind.TheVariants.{All};
 ghost use Rattle.algorithm_texts.specs.Drafts.{draft_view, form_of, local_form};
 ghost use Rattle.algorithm_texts.specs.FinishedDrafts.{is_in, is_within};
 ghost use Rattle.algorithm_texts.specs.Marks.{MarksReached, ReadsMarked, SeenMarked, and_then};
-ghost use Rattle.algorithm_texts.specs.Runs.{EachIsReached, ReadsUnset, RunsFit, RunsSet, RunsStay, StepsComeFirst, has_jump, is_line_in, is_own, is_seen, leads_in, ways_from};
+ghost use Rattle.algorithm_texts.specs.Runs.{EachIsReached, LineReachedAt, NamesSetAt, ReadsUnset, RunsFit, RunsSet, RunsStay, StepFirstAt, StepsComeFirst, has_jump, is_line_in, is_own, is_seen, leads_in, ways_from};
+ghost use Rattle.algorithm_texts.specs.TextFaults.{IsFaultAtFirst, IsFaultOfEnd, IsFaultOfRuns, OrMemory, number_at};
 ghost use Rattle.algorithm_texts.specs.TextLines.{IsRefusalOf};
 ghost use Rattle.algorithm_texts.specs.Usage.{uses, passes_at};
 
-use crate::checks::is_within;
+use crate::checks::{is_within, number_at};
 use crate::flow::RunKind;
 use crate::lines::{CallRead, Draft, Jump};
 use crate::marks::is_in;
@@ -64,6 +67,7 @@ fn is_seen(form: &LineKind) -> bool
 fn earlier(first: Option<usize>, second: Option<usize>) -> Option<usize>
     ensures none { result ≡ None → (first ≡ None) × (second ≡ None) }
     ensures some { IfSome result (λ place. (first ≡ Some place) ⊎ (second ≡ Some place)) }
+    ensures least { IfSome result (λ place. IfSome first (λ at. place ≤ at) × IfSome second (λ at. place ≤ at)) }
 {
     match (first, second) {
         (Some(first), Some(second)) => Some(first.min(second)),
@@ -73,12 +77,11 @@ fn earlier(first: Option<usize>, second: Option<usize>) -> Option<usize>
 }
 
 impl Draft {
-    /// The number of the line at a place, or of the last one of the call.
-    pub fn number_in(&self, call: CallRead, place: usize) -> u64 {
-        match self.algorithm.lines.get(place) {
-            Some(line) => line.number,
-            None => call.last,
-        }
+    /// This fault of the line at a place.
+    pub fn fault_at(&self, fault: ReadFault, place: usize) -> AlgorithmFault
+        ensures { result ≡ fault_of (number_at (draft_view self.now).lines place) fault }
+    {
+        fault.at(number_at(self.algorithm.lines.as_slice(), place))
     }
 
     /// Whether the text has the line at a place.
@@ -106,10 +109,12 @@ impl Draft {
         requires { MarksReached (draft_view self.now) call reached.now }
         ensures ok { OnOk result (EachIsReached (draft_view self.now) call) }
         ensures err { IfErr result (λ fault. IsRefusalOf fault (EachIsReached (draft_view self.now) call)) }
+        ensures first { IfErr result (λ fault. IsFaultAtFirst (draft_view self.now).lines NeverReached
+            (LineReachedAt (draft_view self.now) call) fault) }
     {
         for place in call.from..call.to {
             if self.is_own_at(place) && !is_in(reached, place) {
-                return Err(ReadFault::NeverReached.at(self.number_in(call, place)));
+                return Err(self.fault_at(ReadFault::NeverReached, place));
             }
         }
         Ok(())
@@ -172,6 +177,7 @@ impl Draft {
         requires { MarksReached (draft_view self.now) call reached.now }
         ensures ok { OnOk result (RunsStay (draft_view self.now) call) }
         ensures err { IfErr result (λ fault. IsRefusalOf fault (RunsStay (draft_view self.now) call)) }
+        ensures first { IfErr result (λ fault. IsFaultOfEnd (draft_view self.now) call fault) }
     {
         if self.stays_in_call(call, reached) {
             Ok(())
@@ -182,8 +188,9 @@ impl Draft {
 
     /// The first of these places whose line reads a name.
     fn first_read(&self, call: CallRead, name: usize, places: &[bool]) -> Option<usize>
-        ensures { MatchOption result ((at : ℕ) → ReadsMarked (draft_view self.now) call name places.now at → ⊥)
+        ensures reads { MatchOption result ((at : ℕ) → ReadsMarked (draft_view self.now) call name places.now at → ⊥)
             (λ at. ReadsMarked (draft_view self.now) call name places.now at) }
+        ensures first { IfSome result (λ at. (k : ℕ) → k < at → ReadsMarked (draft_view self.now) call name places.now k → ⊥) }
     {
         for place in call.from..call.to {
             if is_in(places, place) && self.uses_at(Usage::Reads, name, place) {
@@ -202,8 +209,10 @@ impl Draft {
         reached: &[bool],
     ) -> Result<Option<usize>, AllocError>
         requires { MarksReached (draft_view self.now) call reached.now }
-        ensures { IfOk result (λ first. MatchOption first ((at : ℕ) → ReadsUnset (draft_view self.now) call name at → ⊥)
+        ensures reads { IfOk result (λ first. MatchOption first ((at : ℕ) → ReadsUnset (draft_view self.now) call name at → ⊥)
             (λ at. ReadsUnset (draft_view self.now) call name at)) }
+        ensures first { IfOk result (λ first. IfSome first (λ at.
+            (k : ℕ) → k < at → ReadsUnset (draft_view self.now) call name k → ⊥)) }
     {
         let without = self.reached_without(alloc, call, name, reached)?;
         Ok(self.first_read(call, name, without.as_slice()))
@@ -219,6 +228,8 @@ impl Draft {
         requires { MarksReached (draft_view self.now) call reached.now }
         ensures ok { OnOk result (RunsSet (draft_view self.now) call) }
         ensures err { IfErr result (λ fault. IsRefusalOf fault (RunsSet (draft_view self.now) call)) }
+        ensures first { IfErr result (λ fault. OrMemory fault
+            (IsFaultAtFirst (draft_view self.now).lines Unset (NamesSetAt (draft_view self.now) call) fault)) }
     {
         let mut first = None;
         for name in 0..self.algorithm.names.len() {
@@ -226,7 +237,7 @@ impl Draft {
             first = earlier(first, unset);
         }
         match first {
-            Some(place) => Err(ReadFault::Unset.at(self.number_in(call, place))),
+            Some(place) => Err(self.fault_at(ReadFault::Unset, place)),
             None => Ok(()),
         }
     }
@@ -235,10 +246,12 @@ impl Draft {
     fn check_silent(&self, call: CallRead, silent: &[bool]) -> Result<(), AlgorithmFault>
         ensures ok { OnOk result ((at : ℕ) → SeenMarked (draft_view self.now) call silent.now at → ⊥) }
         ensures err { OnErr result ((at : ℕ) × SeenMarked (draft_view self.now) call silent.now at) }
+        ensures first { IfErr result (λ fault. IsFaultAtFirst (draft_view self.now).lines NoStep
+            (λ at. SeenMarked (draft_view self.now) call silent.now at → ⊥) fault) }
     {
         for place in call.from..call.to {
             if is_in(silent, place) && self.is_seen_at(place) {
-                return Err(ReadFault::NoStep.at(self.number_in(call, place)));
+                return Err(self.fault_at(ReadFault::NoStep, place));
             }
         }
         Ok(())
@@ -248,6 +261,8 @@ impl Draft {
     fn check_steps(&self, alloc: Global, call: CallRead) -> Result<(), AlgorithmFault>
         ensures ok { OnOk result (StepsComeFirst (draft_view self.now) call) }
         ensures err { IfErr result (λ fault. IsRefusalOf fault (StepsComeFirst (draft_view self.now) call)) }
+        ensures first { IfErr result (λ fault. OrMemory fault
+            (IsFaultAtFirst (draft_view self.now).lines NoStep (StepFirstAt (draft_view self.now) call) fault)) }
     {
         let silent = self.reached_places(alloc, call, RunKind::Silent)?;
         self.check_silent(call, silent.as_slice())
@@ -263,6 +278,7 @@ impl Draft {
         requires { MarksReached (draft_view self.now) call reached.now }
         ensures ok { OnOk result (RunsFit (draft_view self.now) call) }
         ensures err { IfErr result (λ fault. IsRefusalOf fault (RunsFit (draft_view self.now) call)) }
+        ensures first { IfErr result (λ fault. OrMemory fault (IsFaultOfRuns (draft_view self.now) call fault)) }
     {
         self.check_reached(call, reached)?;
         self.check_end(call, reached)?;
@@ -276,6 +292,7 @@ impl Draft {
         ensures ok { OnOk result (RunsFit (draft_view self.now) call) }
         ensures marks { IfOk result (λ marks. MarksReached (draft_view self.now) call marks.items) }
         ensures err { IfErr result (λ fault. IsRefusalOf fault (RunsFit (draft_view self.now) call)) }
+        ensures first { IfErr result (λ fault. OrMemory fault (IsFaultOfRuns (draft_view self.now) call fault)) }
     {
         let reached = self.reached_places(alloc, call, RunKind::All)?;
         self.check_places(alloc, call, reached.as_slice())?;

@@ -4,7 +4,7 @@ ghost use Rattle.std.specs.Prelude.{◌≡◌, ◌||◌};
 ghost use Rattle.std.specs.Option.{option_map};
 ghost use Rattle.algorithm_texts.specs.Parts.{term_of, formula_of};
 ghost use Rattle.algorithm_texts.specs.Drafts.{access_of, act_of, form_of, local_form};
-ghost use Rattle.algorithm_texts.specs.Usage.{term_reads, formula_reads, index_reads, act_reads, reads, act_sets, sets, begins_loop, ends_loop, has_usage, may_withdraw};
+ghost use Rattle.algorithm_texts.specs.Usage.{term_reads, formula_reads, formula_reads_if, index_reads, act_reads, reads, act_sets, sets, begins_loop, ends_loop, has_usage, may_withdraw};
 
 use algorithms::condition::{Condition, Pair};
 use algorithms::expression::Expression;
@@ -52,6 +52,16 @@ fn condition_reads(condition: &Condition, name: usize) -> bool
     }
 }
 
+/// Whether a condition reads a name, where there is one.
+fn condition_reads_if(condition: &Option<Condition>, name: usize) -> bool
+    ensures { result ≡ formula_reads_if name (option_map (λ c. formula_of c) condition.now) }
+{
+    match condition {
+        Some(condition) => condition_reads(condition, name),
+        None => false,
+    }
+}
+
 /// Whether an index reads a name.
 fn index_reads(index: &Option<Expression>, name: usize) -> bool
     ensures { result ≡ index_reads name (option_map (λ i. term_of i) index.now) }
@@ -70,6 +80,17 @@ fn action_reads(action: &Action, name: usize) -> bool
         Action::Load { .. } => false,
         Action::Store { value } => value_reads(value, name),
         Action::Await { name: own, until } => *own != name && condition_reads(until, name),
+        Action::Swap {
+            name: own,
+            value,
+            guard,
+            until,
+        } => {
+            *own != name
+                && (value_reads(value, name)
+                    || condition_reads_if(guard, name)
+                    || condition_reads_if(until, name))
+        }
     }
 }
 
@@ -109,7 +130,7 @@ fn action_sets(action: &Action, name: usize) -> bool
 {
     match action {
         Action::Load { name: own } => *own == name,
-        Action::Await { name: own, .. } => *own == name,
+        Action::Await { name: own, .. } | Action::Swap { name: own, .. } => *own == name,
         Action::Store { .. } => false,
     }
 }

@@ -1,9 +1,11 @@
 //! A whole text.
 
-ghost use Rattle.std.specs.Prelude.{◌≡◌, ◌⊎◌, ◌<◌, ℕ, if◌then◌else◌, List, None, Some, true, reverse, length, map, IfOk, IfErr, OnOk, OnErr, is_some};
+ghost use Rattle.std.specs.Prelude.{◌≡◌, ◌⊎◌, ◌<◌, ℕ, if◌then◌else◌, List, None, Some, true, reverse, length, map, IfOk, IfErr, OnOk, OnErr, MatchOption, is_some};
 ghost use Rattle.std.specs.List.{All, list_any};
 ghost use Rattle.algorithms.specs.declared.algorithm.AlgorithmCall.TheVariants.{Withdraw};
 ghost use Rattle.algorithms.specs.Deeds.{SaysDeed};
+ghost use Rattle.algorithms.specs.Faults.{fault_of};
+ghost use Rattle.algorithms.specs.declared.fault.ReadFault.TheVariants.{Endless, BadDeed};
 ghost use Rattle.algorithms.specs.Ranked.{LocalLinesEnd, AccessesLeadOn};
 ghost use Rattle.algorithms.specs.declared.line.AlgorithmDeed.TheVariants as deeds;
 ghost use Rattle.algorithm_texts.specs.Drafts.{Drafted, PlacedLine, draft_view, line_of};
@@ -14,7 +16,8 @@ ghost use Rattle.algorithm_texts.specs.Programs.{SpellsAlgorithm, SpellsDraft};
 ghost use Rattle.algorithm_texts.specs.Runs.{AllRuns, KindComesTo, KindRuns};
 ghost use Rattle.algorithm_texts.specs.UnreachedLines.{EndUnreached, MarksRuns};
 ghost use Rattle.algorithm_texts.specs.Usage.{may_withdraw};
-ghost use Rattle.algorithm_texts.specs.TextLines.{IsFaultOfLines, IsRefusalOf};
+ghost use Rattle.algorithm_texts.specs.TextFaults.{FailsFirst, IsFaultOfAllRuns, IsFaultOfAllCalls, IsFaultOfEither, IsFaultOfEmptyCall, IsFaultOfKindCall, IsFaultOfKindRuns, IsFaultOfNoCall, IsFaultOfText, IsFaultOfWays, IsFaultOfWithdraw, OrMemory, StaysAt, number_at, number_of_kind};
+ghost use Rattle.algorithm_texts.specs.TextLines.{IsRefusalOf};
 ghost use Rattle.algorithm_texts.specs.TextDrafts.{is_call};
 
 use crate::drafts::forms;
@@ -60,6 +63,7 @@ fn call_of(draft: &Draft, call: AlgorithmCall) -> Option<CallRead>
 fn check_filled(draft: &Draft) -> Result<(), AlgorithmFault>
     ensures ok { OnOk result (All (λ call. call.«from» < call.to) (draft_view draft.now).calls) }
     ensures err { OnErr result (All (λ call. call.«from» < call.to) (draft_view draft.now).calls → ⊥) }
+    ensures first { IfErr result (λ fault. IsFaultOfEmptyCall (draft_view draft.now) fault) }
 {
     for call in &draft.calls {
         if call.from >= call.to {
@@ -83,6 +87,7 @@ fn beginning(draft: &Draft, call: AlgorithmCall) -> Option<usize>
 fn set_entries(draft: &mut Draft) -> Result<(), AlgorithmFault>
     ensures ok { OnOk result (with_entries (draft_view draft.old) ≡ Some (draft_view draft.new)) }
     ensures err { OnErr result (with_entries (draft_view draft.old) ≡ None) }
+    ensures named { IfErr result (λ fault. IsFaultOfNoCall (draft_view draft.old) fault) }
 {
     let fault = ReadFault::BadCall.at(draft.number);
     let lock = call_of(draft, AlgorithmCall::Lock).ok_or(fault)?;
@@ -103,6 +108,7 @@ fn check_call(draft: &mut Draft, call: AlgorithmCall) -> Result<(), AlgorithmFau
     ensures led { OnOk result (kind_led call (draft_view draft.old) ≡ Some (draft_view draft.new)) }
     ensures fits { OnOk result (KindFits (draft_view draft.new) call) }
     ensures err { OnErr result ((d : Drafted) → kind_led call (draft_view draft.old) ≡ Some d → KindFits d call → ⊥) }
+    ensures first { IfErr result (λ fault. IsFaultOfKindCall (draft_view draft.old) fault call) }
 {
     match call_of(draft, call) {
         Some(read) => draft.check_call(read),
@@ -112,7 +118,9 @@ fn check_call(draft: &mut Draft, call: AlgorithmCall) -> Result<(), AlgorithmFau
 
 /// The number of the first line that may withdraw.
 fn first_withdraw(lines: &[AlgorithmLine]) -> Option<u64>
-    ensures { is_some result ≡ list_any (λ line. may_withdraw line.form) (map line_of lines.now) }
+    ensures any { is_some result ≡ list_any (λ line. may_withdraw line.form) (map line_of lines.now) }
+    ensures first { MatchOption result ((at : ℕ) → StaysAt (map line_of lines.now) at) (λ number. (at : ℕ)
+        × FailsFirst (StaysAt (map line_of lines.now)) at × (number ≡ number_at (map line_of lines.now) at)) }
 {
     for line in lines {
         if may_withdraw(&line.form) {
@@ -128,6 +136,7 @@ fn check_withdraw(draft: &Draft) -> Result<(), AlgorithmFault>
         ≡ list_any (λ line. may_withdraw line.form) (draft_view draft.now).lines) }
     ensures err { OnErr result (is_some (call_in Withdraw (draft_view draft.now).calls)
         ≡ list_any (λ line. may_withdraw line.form) (draft_view draft.now).lines → ⊥) }
+    ensures first { IfErr result (λ fault. IsFaultOfWithdraw (draft_view draft.now) fault) }
 {
     match (
         first_withdraw(draft.algorithm.lines.as_slice()),
@@ -144,6 +153,7 @@ fn check_calls(draft: &mut Draft) -> Result<(), AlgorithmFault>
     ensures finished { OnOk result (finished_draft (draft_view draft.old) ≡ Some (draft_view draft.new)) }
     ensures fit { OnOk result (CallsFit (draft_view draft.new)) }
     ensures err { OnErr result ((d : Drafted) → finished_draft (draft_view draft.old) ≡ Some d → CallsFit d → ⊥) }
+    ensures first { IfErr result (λ fault. IsFaultOfAllCalls (draft_view draft.old) fault) }
 {
     check_filled(draft)?;
     set_entries(draft)?;
@@ -158,7 +168,7 @@ fn check_calls(draft: &mut Draft) -> Result<(), AlgorithmFault>
 fn fitting_draft(alloc: Global, text: &[u8]) -> Result<Draft, AlgorithmFault>
     ensures ok { IfOk result (λ draft. SpellsDraft text.now (draft_view draft)) }
     ensures err { IfErr result (λ fault. IsRefusalOf fault ((draft : Drafted) × SpellsDraft text.now draft)) }
-    ensures first { IfErr result (λ fault. IsFaultOfLines text.now fault) }
+    ensures first { IfErr result (λ fault. OrMemory fault (IsFaultOfText text.now fault)) }
 {
     let mut draft = forms(alloc, text)?;
     check_calls(&mut draft)?;
@@ -180,6 +190,7 @@ fn check_run(
     ensures comes { OnOk result ((at : ℕ) → is_in marks.new at ≡ true
         → (is_in marks.old at ≡ true) ⊎ KindComesTo (draft_view draft.now) call at) }
     ensures err { IfErr result (λ fault. IsRefusalOf fault (KindRuns (draft_view draft.now) call)) }
+    ensures first { IfErr result (λ fault. OrMemory fault (IsFaultOfKindRuns (draft_view draft.now) fault call)) }
 {
     match call_of(draft, call) {
         Some(read) => {
@@ -199,6 +210,7 @@ fn check_kinds(alloc: Global, draft: &Draft, marks: &mut [bool]) -> Result<(), A
     ensures size { length marks.new ≡ length marks.old }
     ensures marks { OnOk result (MarksRuns (draft_view draft.now) marks.new) }
     ensures err { IfErr result (λ fault. IsRefusalOf fault (AllRuns (draft_view draft.now))) }
+    ensures first { IfErr result (λ fault. OrMemory fault (IsFaultOfAllRuns (draft_view draft.now) fault)) }
 {
     check_run(alloc, draft, AlgorithmCall::Lock, marks)?;
     check_run(alloc, draft, AlgorithmCall::Unlock, marks)?;
@@ -211,6 +223,7 @@ fn check_all(alloc: Global, draft: &Draft) -> Result<Vec<bool>, AlgorithmFault>
     ensures runs { OnOk result (AllRuns (draft_view draft.now)) }
     ensures marks { IfOk result (λ marks. MarksRuns (draft_view draft.now) marks.items) }
     ensures err { IfErr result (λ fault. IsRefusalOf fault (AllRuns (draft_view draft.now))) }
+    ensures first { IfErr result (λ fault. OrMemory fault (IsFaultOfAllRuns (draft_view draft.now) fault)) }
 {
     let mut marks = vec![in alloc; false; draft.algorithm.lines.len()]?;
     check_kinds(alloc, draft, marks.as_mut_slice())?;
@@ -224,6 +237,7 @@ fn end_ways(draft: &mut Draft, marks: &[bool]) -> Result<(), AlgorithmFault>
     ensures lines { OnOk result (EndUnreached (draft_view draft.old) (draft_view draft.new).lines) }
     ensures kept { OnOk result (draft_view draft.new ≡ with_lines (draft_view draft.new).lines (draft_view draft.old)) }
     ensures err { OnErr result ((lines : List PlacedLine) → EndUnreached (draft_view draft.old) lines → ⊥) }
+    ensures named { IfErr result (λ fault. fault ≡ fault_of (draft_view draft.old).number Endless) }
 {
     if !runs_stay(&draft.algorithm, marks) {
         return Err(ReadFault::Endless.at(draft.number));
@@ -241,9 +255,21 @@ fn check_flow(alloc: Global, draft: &mut Draft) -> Result<(), AlgorithmFault>
     ensures leads { OnOk result (AccessesLeadOn draft.new.algorithm) }
     ensures err { IfErr result (λ fault. IsRefusalOf fault (AllRuns (draft_view draft.old)
         × ((lines : List PlacedLine) × EndUnreached (draft_view draft.old) lines))) }
+    ensures first { IfErr result (λ fault. OrMemory fault (IsFaultOfAllRuns (draft_view draft.old) fault
+        ⊎ (AllRuns (draft_view draft.old) × IsFaultOfWays (draft_view draft.old) fault))) }
 {
     let marks = check_all(alloc, draft)?;
     end_ways(draft, marks.as_slice())
+}
+
+/// The number of the line that begins a call, or of the last line where there is none.
+fn number_of_kind(draft: &Draft, call: AlgorithmCall) -> u64
+    ensures { result ≡ number_of_kind (draft_view draft.now) call }
+{
+    match call_of(draft, call) {
+        Some(call) => call.number,
+        None => draft.number,
+    }
 }
 
 /// Checks that a line of the call that begins at this place says a deed.
@@ -255,15 +281,12 @@ fn check_said(
 ) -> Result<(), AlgorithmFault>
     ensures ok { OnOk result (SaysDeed draft.now.algorithm entry deed) }
     ensures err { OnErr result (SaysDeed draft.now.algorithm entry deed → ⊥) }
+    ensures named { IfErr result (λ fault. fault ≡ fault_of (number_of_kind (draft_view draft.now) call) BadDeed) }
 {
     if says_deed(&draft.algorithm, entry, deed) {
         return Ok(());
     }
-    let number = match call_of(draft, call) {
-        Some(call) => call.number,
-        None => draft.number,
-    };
-    Err(ReadFault::BadDeed.at(number))
+    Err(ReadFault::BadDeed.at(number_of_kind(draft, call)))
 }
 
 /// Checks that the lock says that it enters, and the unlock that it leaves.
@@ -272,6 +295,9 @@ fn check_deeds(draft: &Draft) -> Result<(), AlgorithmFault>
     ensures leaves { OnOk result (SaysDeed draft.now.algorithm draft.now.algorithm.entries.unlock deeds.Leave) }
     ensures err { OnErr result (SaysDeed draft.now.algorithm draft.now.algorithm.entries.lock deeds.Enter
         → SaysDeed draft.now.algorithm draft.now.algorithm.entries.unlock deeds.Leave → ⊥) }
+    ensures first { IfErr result (λ fault. IsFaultOfEither (draft_view draft.now)
+        (SaysDeed draft.now.algorithm draft.now.algorithm.entries.lock deeds.Enter)
+        (SaysDeed draft.now.algorithm draft.now.algorithm.entries.unlock deeds.Leave) fault) }
 {
     let entries = draft.algorithm.entries;
     check_said(
@@ -301,7 +327,7 @@ pub fn read_algorithm(alloc: Global, text: &[u8]) -> Result<Algorithm, Algorithm
     ensures enters { IfOk result (λ a. SaysDeed a a.entries.lock deeds.Enter) }
     ensures leaves { IfOk result (λ a. SaysDeed a a.entries.unlock deeds.Leave) }
     ensures refuses { IfErr result (λ fault. IsRefusalOf fault ((a : Algorithm) × SpellsAlgorithm text.now a)) }
-    ensures first { IfErr result (λ fault. IsFaultOfLines text.now fault) }
+    ensures first { IfErr result (λ fault. OrMemory fault (IsFaultOfText text.now fault)) }
 {
     let mut draft = fitting_draft(alloc, text)?;
     check_flow(alloc, &mut draft)?;

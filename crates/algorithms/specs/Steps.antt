@@ -1,7 +1,7 @@
 -- One step of a process: one access, and the local lines after it.
 use Rattle.std.specs.Prelude.{ℕ, ◌+◌, ◌-◌, true, false, if◌then◌else◌, List, ◌++◌, length, take, replicate, slice_get, Option, Some, None, option_and_then, Result, Ok, ok_or}
 use Rattle.std.specs.Option.{option_or}
-use Rattle.algorithms.specs.Accesses.{access_of, names_after_read, passes}
+use Rattle.algorithms.specs.Accesses.{access_of, access_after_read, names_after_read, passes}
 use Rattle.algorithms.specs.Arrivals.{Arrival, arrives, ◌>>=◌}
 use Rattle.algorithms.specs.LocalRuns.{nothing_noted}
 use Rattle.algorithms.specs.declared.access.WordAccess.{WordAccess}
@@ -48,14 +48,15 @@ word_at words address = option_and_then (λ row. slice_get row address.index) (s
 abbrev pub value_of : List (List ℕ) → WordAccess → Option ℕ
 value_of words access = option_or access.stores (word_at words access.address)
 
--- the step of a process before the access at a place
+-- the step of a process before the access at a place. A swap reads its word and stores in one step
 abbrev pub step_before_access : Algorithm → Constants → List (List ℕ) → ℕ → AccessLine → List ℕ → Result Taken AlgorithmRefusal
 step_before_access a c words at line store = do
   access ← ok_or (access_of a.declarations.items c store line) (OutOfRange at)
   value ← ok_or (value_of words access) (Malformed at)
+  made ← ok_or (access_after_read a.declarations.items c (names_after_read line.action value store) line.action access) (OutOfRange at)
   goes ← ok_or (passes c (names_after_read line.action value store) line.action) (OutOfRange at)
   moved ← if goes then goes_on a c (at + 1) (names_after_read line.action value store) else Ok (stays at store)
-  Ok (record { at = at; access = access; value = value; moved = moved })
+  Ok (record { at = at; access = made; value = value; moved = moved })
 
 -- ---- a step in place: what it says, and what it has made of its process
 

@@ -1,11 +1,13 @@
 //! The access that a process makes next, and what its value leads to.
 
 ghost use Rattle.std.specs.Prelude.{◌≡◌, ◌<◌, ◌-◌, ◌^◌, Ok, Err, IfOk, IfErr};
-ghost use Rattle.algorithms.specs.Accesses.{index_of, bound_of, value_stored, access_of, names_after_read, passes};
+ghost use Rattle.algorithms.specs.Accesses.{index_of, bound_of, value_stored, is_swap, access_of, names_after_read, holds_if, value_swapped, access_after_read, passes};
+ghost use Rattle.algorithms.specs.declared.line.Action.TheVariants.{Store as StoreAction};
 ghost use Rattle.algorithms.specs.LocalRuns.{nothing_noted};
 ghost use Rattle.algorithms.specs.Steps.{goes_on, value_of, step_before_access, process_stopped_at, move_to_state, step_from};
 
 use crate::algorithm::{Algorithm, Declaration};
+use crate::condition::Condition;
 use crate::constants::{Constants, MOST_PROCS};
 use crate::expression::{Expression, NAMES};
 use crate::line::{AccessLine, Action, WordOf};
@@ -21,15 +23,18 @@ pub struct Address {
     pub index: u64,
 }
 
-/// One load or store of one shared word.
+/// One load, store or swap of one shared word.
 #[derive(Clone, Copy, Debug, PartialEq, Eq)]
 pub struct WordAccess {
     pub address: Address,
-    /// The value that is stored. `None` for a load.
+    /// The value that is stored. `None` for a load, and for a swap whose guard does not hold.
     pub stores: Option<u64>,
+    /// Whether it is a swap, which reads the word and may store in the same step.
+    pub swaps: bool,
 }
 
-/// A step that was taken: the place of its line, its access, the value that was read or stored, and what it leaves.
+/// A step that was taken: the place of its line, its access, the value that was read, or stored where none is read, and what it
+/// leaves.
 #[derive(Clone, Copy, Debug)]
 pub struct Taken {
     pub at: usize,
@@ -76,8 +81,26 @@ fn bound_of(declaration: &Declaration, constants: Constants, store: &[u64; NAMES
     }
 }
 
-/// The value that an action stores, or none where it only loads. None as a whole: a value that is needed does not exist, or is
-/// too great.
+/// What a store of this value stores. `None` where the value does not exist, or is too great.
+fn value_within(
+    declaration: &Declaration,
+    value: &Expression,
+    constants: Constants,
+    store: &[u64; NAMES],
+) -> Option<Option<u64>>
+    ensures { result ≡ value_stored constants store.now declaration.now (StoreAction value.now) }
+{
+    let bound = bound_of(declaration, constants, store)?;
+    let value = value.evaluate(constants, store)?;
+    if value <= bound {
+        Some(Some(value))
+    } else {
+        None
+    }
+}
+
+/// The value that an action stores, or none where it first has to read. None as a whole: a value that is needed does not exist,
+/// or is too great.
 fn value_stored(
     declaration: &Declaration,
     action: &Action,
@@ -87,21 +110,46 @@ fn value_stored(
     ensures { result ≡ value_stored constants store.now declaration.now action.now }
 {
     match action {
-        Action::Load { .. } | Action::Await { .. } => Some(None),
-        Action::Store { value } => {
-            let bound = bound_of(declaration, constants, store)?;
-            let value = value.evaluate(constants, store)?;
-            if value <= bound {
-                Some(Some(value))
-            } else {
-                None
-            }
-        }
+        Action::Load { .. } | Action::Await { .. } | Action::Swap { .. } => Some(None),
+        Action::Store { value } => value_within(declaration, value, constants, store),
+    }
+}
+
+/// Whether a condition holds, where there is one. `None` where a value is out of range.
+fn holds_if(
+    condition: &Option<Condition>,
+    constants: Constants,
+    store: &[u64; NAMES],
+) -> Option<bool>
+    ensures { result ≡ holds_if constants store.now condition.now }
+{
+    match condition {
+        None => Some(true),
+        Some(condition) => condition.holds(constants, store),
+    }
+}
+
+/// The value that a swap stores, with the names once its word is read, or none where its guard does not hold. None as a whole: a
+/// value that is needed does not exist, or is too great.
+fn value_swapped(
+    declaration: &Declaration,
+    value: &Expression,
+    guard: &Option<Condition>,
+    constants: Constants,
+    store: &[u64; NAMES],
+) -> Option<Option<u64>>
+    ensures { result ≡ value_swapped constants store.now declaration.now value.now guard.now }
+{
+    if holds_if(guard, constants, store)? {
+        value_within(declaration, value, constants, store)
+    } else {
+        Some(None)
     }
 }
 
 impl AccessLine {
-    /// The access that a process at this line makes. `None` where a value is out of range.
+    /// The access that a process at this line makes, as far as it is known before the word is read. `None` where a value is out
+    /// of range.
     pub fn access(
         &self,
         declarations: &[Declaration],
@@ -117,18 +165,52 @@ impl AccessLine {
         Some(WordAccess {
             address: Address { declaration, index },
             stores,
+            swaps: self.action.is_swap(),
         })
     }
 }
 
 impl Action {
+    /// Whether this reads a word and may store in the same step.
+    fn is_swap(&self) -> bool
+        ensures { result ≡ is_swap self.now }
+    {
+        match self {
+            Action::Swap { .. } => true,
+            Action::Load { .. } | Action::Store { .. } | Action::Await { .. } => false,
+        }
+    }
+
+    /// The access once its word is read, with the names after that: a swap now stores, where its guard holds. `None` where a
+    /// value is out of range.
+    fn complete(
+        &self,
+        declarations: &[Declaration],
+        constants: Constants,
+        store: &[u64; NAMES],
+        access: WordAccess,
+    ) -> Option<WordAccess>
+        ensures { result ≡ access_after_read declarations.now constants store.now self.now access }
+    {
+        match self {
+            Action::Load { .. } | Action::Store { .. } | Action::Await { .. } => Some(access),
+            Action::Swap { value, guard, .. } => {
+                let declaration = declarations.get(access.address.declaration)?;
+                let stores = value_swapped(declaration, value, guard, constants, store)?;
+                Some(WordAccess { stores, ..access })
+            }
+        }
+    }
+
     /// Reads the value into its name, if it has one.
     fn receive(&self, value: u64, store: &mut [u64; NAMES])
         ensures { store.new ≡ names_after_read self.now value store.old }
     {
         match self {
             Action::Store { .. } => {}
-            Action::Load { name } | Action::Await { name, .. } => set_name(store, *name, value),
+            Action::Load { name } | Action::Await { name, .. } | Action::Swap { name, .. } => {
+                set_name(store, *name, value)
+            }
         }
     }
 
@@ -139,6 +221,7 @@ impl Action {
         match self {
             Action::Load { .. } | Action::Store { .. } => Some(true),
             Action::Await { until, .. } => until.holds(constants, store),
+            Action::Swap { until, .. } => holds_if(until, constants, store),
         }
     }
 }
@@ -205,10 +288,15 @@ pub(crate) fn act(
         ≡ Err e) }
 {
     let at = state.at;
-    let access = line.access(algorithm.declarations.as_slice(), constants, &state.store);
+    let declarations = algorithm.declarations.as_slice();
+    let access = line.access(declarations, constants, &state.store);
     let access = access.ok_or(AlgorithmRefusal::OutOfRange { place: at })?;
     let value = value_of(words, access).ok_or(AlgorithmRefusal::Malformed { place: at })?;
     line.action.receive(value, &mut state.store);
+    let access = line
+        .action
+        .complete(declarations, constants, &state.store, access);
+    let access = access.ok_or(AlgorithmRefusal::OutOfRange { place: at })?;
     let passes = line.action.passes(constants, &state.store);
     let passes = passes.ok_or(AlgorithmRefusal::OutOfRange { place: at })?;
     let answer = if passes {

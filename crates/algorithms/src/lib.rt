@@ -10,6 +10,7 @@ pub mod constants;
 pub mod deeds;
 pub mod expression;
 pub mod fault;
+mod first_rows;
 pub mod line;
 mod local;
 pub mod loops;

@@ -38,11 +38,28 @@ pub struct WordOf {
 #[derive(Debug, Drop)]
 pub enum Action {
     /// Loads it into a private name.
-    Load { name: usize },
+    Load {
+        name: usize,
+    },
     /// Stores this value.
-    Store { value: Expression },
+    Store {
+        value: Expression,
+    },
     /// Loads it into a private name, and goes on where the condition then holds. Else the reading was blocked.
-    Await { name: usize, until: Condition },
+    Await {
+        name: usize,
+        until: Condition,
+    },
+    /// Loads it into a private name and in the same step stores this value, where the guard holds. The value and the guard
+    /// may read the name. It goes on as an await where there is an `until`.
+    Swap {
+        name: usize,
+        value: Expression,
+        /// Without one the value is always stored.
+        guard: Option<Condition>,
+        /// Without one the process always goes on. One that does not hold takes nothing back: the value is stored.
+        until: Option<Condition>,
+    },
 }
 
 /// One access of one shared word.

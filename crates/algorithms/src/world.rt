@@ -1,14 +1,15 @@
 //! The worlds of an algorithm.
 
-ghost use Rattle.std.specs.Prelude.{◌≡◌, ◌<◌, Some, None, Ok, Err, IfOk, IfErr, OnOk, OnErr, length, replicate};
+ghost use Rattle.std.specs.Prelude.{◌≡◌, ◌<◌, Some, None, Ok, Err, IfOk, IfErr, OnOk, OnErr, length};
 ghost use Rattle.algorithms.specs.LocalRuns.{nothing_noted};
 ghost use Rattle.algorithms.specs.Steps.{before_step, process_stopped_at, step_from};
-ghost use Rattle.algorithms.specs.Worlds.{access_at, start_refusal, words_after_access, process_after_start, taken_by, resting};
+ghost use Rattle.algorithms.specs.Worlds.{access_at, start_refusal, words_after_access, process_after_start, taken_by};
 
 use crate::access::{Address, Advanced, Moved, Taken, WordAccess, act};
 use crate::algorithm::{Algorithm, AlgorithmCall};
 use crate::constants::{Constants, MOST_PROCS};
 use crate::expression::NAMES;
+use crate::first_rows::{all_at_rest, all_zero, rest_all, zero_all};
 use crate::line::{AccessLine, LineKind};
 use crate::local::{LocalState, arrive};
 use crate::noted::NotedDeeds;
@@ -16,6 +17,7 @@ use crate::process::{AlgorithmPlace, AlgorithmProcess, keep};
 use crate::refusal::AlgorithmRefusal;
 use std::alloc::{AllocError, Global};
 use std::marker::Model;
+use std::sync::Arc;
 
 /// The greatest limit of numbers, 2^62.
 pub const MOST_LIMIT: u64 = 4_611_686_018_427_387_904;
@@ -24,7 +26,7 @@ pub const MOST_LIMIT: u64 = 4_611_686_018_427_387_904;
 /// its answer. A crash may come before any step. Only `new` and `checkpoint` allocate.
 #[derive(Drop)]
 pub struct AlgorithmWorld {
-    algorithm: Algorithm,
+    algorithm: Arc<Algorithm>,
     procs: u64,
     limit: u64,
     words: Vec<[u64; MOST_PROCS]>,
@@ -40,6 +42,7 @@ pub struct WorldCheckpoint {
 
 impl Model for AlgorithmWorld {
     ghost use Rattle.std.specs.Prelude.{◌≡◌, vec_len};
+    ghost use Rattle.std.specs.Arc.{arc_value};
     ghost use Rattle.std.specs.Coded.{codes};
     ghost use Rattle.algorithms.specs.contracts.condition.Condition as condition;
     ghost use Rattle.algorithms.specs.contracts.expression.Expression as expression;
@@ -49,15 +52,10 @@ impl Model for AlgorithmWorld {
 
     ghost coded = { Prim.hlevel (codes, expression.the_row.coded, condition.the_row.coded) };
 
-    ghost view = { λ w. record { algorithm = w.algorithm; procs = w.procs; limit = w.limit; words = w.words.items; processes = w.processes.items } };
+    ghost view = { λ w. record { algorithm = arc_value w.algorithm; procs = w.procs; limit = w.limit; words = w.words.items; processes = w.processes.items } };
 
     ghost invariant = { λ w. vec_len w.processes ≡ w.procs };
 }
-
-const RESTING: AlgorithmProcess = AlgorithmProcess {
-    place: AlgorithmPlace::Rest,
-    store: [0; NAMES],
-};
 
 /// The access line at a place.
 fn access_at(algorithm: &Algorithm, at: usize) -> Result<&AccessLine, AlgorithmRefusal>
@@ -212,49 +210,6 @@ fn step_from(before: &LocalState, advanced: &Advanced, state: &LocalState) -> Ta
     }
 }
 
-/// As many rows of words as there are declarations, with each word 0.
-fn all_zero(alloc: Global, count: usize) -> Result<Vec<[u64; MOST_PROCS]>, AlgorithmRefusal>
-    ensures rows { IfOk result (λ rows. rows.items ≡ replicate count (replicate 64 0)) }
-    ensures memory { IfErr result (λ e. e ≡ AlgorithmRefusal.OutOfMemory) }
-{
-    let mut rows = Vec::with_capacity(alloc, count)?;
-    for row in 0..count {
-        rows.push([0; MOST_PROCS])?;
-    }
-    Ok(rows)
-}
-
-/// As many processes as are asked for, each at rest.
-fn all_at_rest(alloc: Global, count: usize) -> Result<Vec<AlgorithmProcess>, AlgorithmRefusal>
-    ensures rows { IfOk result (λ processes. processes.items ≡ replicate count resting) }
-    ensures memory { IfErr result (λ e. e ≡ AlgorithmRefusal.OutOfMemory) }
-{
-    let mut processes = Vec::with_capacity(alloc, count)?;
-    for process in 0..count {
-        processes.push(RESTING)?;
-    }
-    Ok(processes)
-}
-
-/// Sets each word of these rows to 0.
-#[tactic(auto, using(crate::proofs::Worlds::set_next))]
-fn zero_all(rows: &mut [[u64; MOST_PROCS]])
-    ensures { rows.new ≡ replicate (length rows.old) (replicate 64 0) }
-{
-    for row in 0..rows.len() {
-        rows[row] = [0; MOST_PROCS];
-    }
-}
-
-/// Sets each of these processes at rest.
-fn rest_all(processes: &mut [AlgorithmProcess])
-    ensures { processes.new ≡ replicate (length processes.old) resting }
-{
-    for process in 0..processes.len() {
-        processes[process] = RESTING;
-    }
-}
-
 impl AlgorithmWorld {
     ghost use Rattle.algorithms.specs.Worlds.{first_world, new_refusal, cause, constants_of, process_of, start, start_of_process, step, advance, crash, world_at_beginning, with_process};
 
@@ -283,6 +238,7 @@ impl AlgorithmWorld {
         }
         let words = all_zero(alloc, algorithm.declarations.len())?;
         let processes = all_at_rest(alloc, procs as usize)?;
+        let algorithm = Arc::new(alloc, algorithm)?;
         Ok(AlgorithmWorld {
             algorithm,
             procs,
@@ -311,8 +267,8 @@ impl AlgorithmWorld {
         Ok(())
     }
 
-    /// Takes the next step of a process: one load or one store of one word, and the local lines after it. A blocked reading
-    /// is a step too, and the next step reads the same word again.
+    /// Takes the next step of a process: one load, store or swap of one word, and the local lines after it. A blocked reading
+    /// is a step too, and the next step reads the same word again. A blocked swap has stored all the same.
     ///
     /// `NoSuchProcess`, then `NothingToDo`: no call of the process is under way. `OutOfRange`: the algorithm leaves its
     /// bounds here.
@@ -393,6 +349,23 @@ impl AlgorithmWorld {
         Ok(())
     }
 
+    /// A new world of the same algorithm and the same sizes. Both share the one algorithm.
+    pub fn beside(&self, alloc: Global) -> Result<AlgorithmWorld, AlgorithmRefusal>
+        ensures world { IfOk result (λ w. w ≡ world_at_beginning self.now) }
+        ensures memory { IfErr result (λ e. e ≡ AlgorithmRefusal.OutOfMemory) }
+    {
+        let words = all_zero(alloc, self.words.len())?;
+        let processes = all_at_rest(alloc, self.processes.len())?;
+        let algorithm = Arc::try_clone(&self.algorithm)?;
+        Ok(AlgorithmWorld {
+            algorithm,
+            procs: self.procs,
+            limit: self.limit,
+            words,
+            processes,
+        })
+    }
+
     /// Makes all words 0 and puts all processes at rest, as in a new world of the same sizes.
     pub fn restart(&mut self)
         ensures { self.new ≡ world_at_beginning self.old }
@@ -469,8 +442,12 @@ impl AlgorithmWorld {
     pub fn seam_set_word(&mut self, address: Address, value: u64)
         ensures { self.new ≡ record self.old { words = words_after_access self.old.words address (Some value) } }
     {
-        let stores = Some(value);
-        store(self.words.as_mut_slice(), WordAccess { address, stores });
+        let access = WordAccess {
+            address,
+            stores: Some(value),
+            swaps: false,
+        };
+        store(self.words.as_mut_slice(), access);
     }
 
     /// For this workspace alone, as `seam_set_word`: sets the private memory of a process. One that is not there has none.

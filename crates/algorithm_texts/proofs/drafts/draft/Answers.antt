@@ -1,6 +1,7 @@
 use Rattle.std.proofs.Common.{◌≡◌, Some, None, slice_get, inr, rules}
 use Rattle.std.proofs.lemmas.Result.{err_from_is_err_and}
 use Rattle.algorithm_texts.specs.Drafts.{draft_view}
+use Rattle.algorithm_texts.proofs.FormFaults.{draft_begins, first_missing, first_stops, head_then}
 use Rattle.algorithm_texts.proofs.TextBeginnings.{text_begun, no_first, head_refuses, no_promises}
 use Rattle.algorithm_texts.proofs.drafts.draft.Goals as goal
 
@@ -26,3 +27,27 @@ returns-in_err-promises-clause-err c =
     let p = err_from_is_err_and c.from_residual-in_err-promises.result c.from_residual-in_err-promises.ensures.1 in
     let first : slice_get c.args.lines.now 0 ≡ Some c.in-Some.first.now = first_of (search rules, cc) in
     rw (p.1, p.2) (inr (no_promises c.args.lines.now c.in-Some.first.now first c.in_err-promises.ensures.err))
+
+pub returns-clause-begins : goal.returns-clause-begins
+returns-clause-begins c =
+    let first : slice_get c.args.lines.now 0 ≡ Some c.in-Some.first.now = first_of (search rules, cc) in
+    let h = c.in_ok-algorithm.ensures.ok in
+    draft_begins c.args.lines.now c.in-Some.first.now h.0 c.in_ok-promises.promises c.in_ok-promises.number (draft_view c.new_draft.result) first h.1 c.in_ok-promises.ensures.ok (c.new_draft.ensures h.0 h.2)
+
+pub returns-in-None-clause-first : goal.returns-in-None-clause-first
+returns-in-None-clause-first c =
+    let none : slice_get c.args.lines.now 0 ≡ None = first_of (search rules, cc) in
+    first_missing c.args.lines.now c.at.result none c.at.ensures
+
+pub returns-in_err-algorithm-clause-first : goal.returns-in_err-algorithm-clause-first
+returns-in_err-algorithm-clause-first c =
+    let p = err_from_is_err_and c.from_residual.result c.from_residual.ensures.1 in
+    let first : slice_get c.args.lines.now 0 ≡ Some c.in-Some.first.now = first_of (search rules, cc) in
+    rw (p.1, p.2) (first_stops c.args.lines.now c.in-Some.first.now c.in_err-algorithm.field-0.0 first c.in_err-algorithm.ensures.at)
+
+pub returns-in_err-promises-clause-first : goal.returns-in_err-promises-clause-first
+returns-in_err-promises-clause-first c =
+    let p = err_from_is_err_and c.from_residual-in_err-promises.result c.from_residual-in_err-promises.ensures.1 in
+    let first : slice_get c.args.lines.now 0 ≡ Some c.in-Some.first.now = first_of (search rules, cc) in
+    let h = c.in_ok-algorithm.ensures.ok in
+    rw (p.1, p.2) (head_then c.args.lines.now c.in-Some.first.now h.0 c.in_err-promises.field-0.0 first h.1 c.in_err-promises.ensures.first)

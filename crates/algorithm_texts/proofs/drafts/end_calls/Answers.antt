@@ -3,6 +3,7 @@ use Rattle.algorithm_texts.specs.Drafts.{draft_view}
 use Rattle.algorithm_texts.specs.LineDrafts.{Drafts}
 use Rattle.algorithm_texts.specs.TextLines.{RefusesLines}
 use Rattle.algorithm_texts.specs.TextDrafts.{end_call}
+use Rattle.algorithm_texts.proofs.FormFaults.{stops_at}
 use Rattle.algorithm_texts.proofs.RefusedLines.{refuses_at}
 use Rattle.algorithm_texts.proofs.drafts.end_calls.Goals as goal
 
@@ -11,3 +12,8 @@ returns-in-Err-clause-err c =
     let o = end_call c.args.draft.now.number (draft_view c.args.draft.now) in
     subst (λ f. RefusesLines f o) (sym c.at.ensures)
     (refuses_at c.args.draft.now.number c.in-Err.fault o (subst (λ r. Drafts (draft_view c.end_call.new.self) r o) c.in-Err.is c.end_call.ensures))
+
+pub returns-in-Err-clause-first : goal.returns-in-Err-clause-first
+returns-in-Err-clause-first c =
+    let o = end_call c.args.draft.now.number (draft_view c.args.draft.now) in
+    stops_at c.args.draft.now.number c.in-Err.fault c.at.result o c.at.ensures (subst (λ r. Drafts (draft_view c.end_call.new.self) r o) c.in-Err.is c.end_call.ensures)

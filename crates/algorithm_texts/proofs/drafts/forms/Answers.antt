@@ -1,10 +1,11 @@
-use Rattle.std.proofs.Common.{◌≡◌, map, drop, sym, ap, ◌∙◌, subst, inr}
+use Rattle.std.proofs.Common.{◌≡◌, ◌⊎◌, map, drop, slice_get, sym, ap, ◌∙◌, subst, inl, inr}
 use Rattle.std.specs.List.{drop-map}
 use Rattle.std.proofs.lemmas.Result.{err_from_is_err_and}
 use Rattle.algorithm_texts.specs.Drafts.{draft_view}
 use Rattle.algorithm_texts.specs.TextDrafts.{read_lines, read_text}
-use Rattle.algorithm_texts.specs.TextLines.{RefusesLines, spoken_of}
-use Rattle.algorithm_texts.proofs.FirstFaults.{any_fault, lines_said}
+use Rattle.algorithm_texts.specs.TextFaults.{BeginsDraft, IsFaultOfForms, IsFaultOfHead, IsFaultOfLater, OrMemory}
+use Rattle.algorithm_texts.specs.TextLines.{IsFirstFaultyLine, RefusesLines, SaysUpTo, spoken_of}
+use Rattle.algorithm_texts.proofs.RunFaults.{or_memory}
 use Rattle.algorithm_texts.proofs.OneDraft.{unsaid, unread}
 use Rattle.algorithm_texts.proofs.drafts.forms.Goals as goal
 
@@ -36,12 +37,28 @@ returns-in_err-read_all-clause-err c =
 pub returns-in_err-lines-clause-first : goal.returns-in_err-lines-clause-first
 returns-in_err-lines-clause-first c =
     let p = err_from_is_err_and c.from_residual.result c.from_residual.ensures.1 in
-    rw (p.1, p.2) (inr c.in_err-lines.ensures.first)
+    rw (p.1, p.2) (inr (inl c.in_err-lines.ensures.first))
 
 pub returns-in_err-draft-clause-first : goal.returns-in_err-draft-clause-first
 returns-in_err-draft-clause-first c =
-    any_fault c.from_residual-in_err-draft.result (lines_said c.args.text.now (map spoken_of c.in_ok-lines.lines.items) c.in_ok-lines.ensures.ok)
+    let p = err_from_is_err_and c.from_residual-in_err-draft.result c.from_residual-in_err-draft.ensures.1 in
+    let fault = c.in_err-draft.field-0.0 in
+    let spoken = map spoken_of c.in_ok-lines.lines.items in
+    let head = subst (λ xs. OrMemory fault (IsFaultOfHead (slice_get (map spoken_of xs) 0) (slice_get (map spoken_of xs) 1) fault)) c.as_slice.ensures.value c.in_err-draft.ensures.first in
+    rw (p.1, p.2)
+    (or_memory fault (IsFaultOfHead (slice_get spoken 0) (slice_get spoken 1) fault) (IsFirstFaultyLine fault (SaysUpTo c.args.text.now) ⊎ IsFaultOfLater c.args.text.now fault)
+    (λ h. inr (spoken, c.in_ok-lines.ensures.ok, inl h)) head)
 
 pub returns-in_err-read_all-clause-first : goal.returns-in_err-read_all-clause-first
 returns-in_err-read_all-clause-first c =
-    any_fault c.from_residual-in_err-read_all.result (lines_said c.args.text.now (map spoken_of c.in_ok-lines.lines.items) c.in_ok-lines.ensures.ok)
+    let p = err_from_is_err_and c.from_residual-in_err-read_all.result c.from_residual-in_err-read_all.ensures.1 in
+    let fault = c.in_err-read_all.field-0.0 in
+    let lines = c.in_ok-lines.lines.items in
+    let draft = draft_view c.in_ok-draft.draft in
+    let rest : map spoken_of c.after_head.result.now ≡ drop 2 (map spoken_of lines) =
+    ap (map spoken_of) (c.after_head.ensures ∙ ap (drop 2) c.as_slice-2.ensures.value) ∙ sym (drop-map spoken_of 2 lines) in
+    let begins = subst (λ xs. BeginsDraft (map spoken_of xs) draft) c.as_slice.ensures.value c.in_ok-draft.ensures.begins in
+    let stops = subst (λ ss. OrMemory fault (IsFaultOfForms draft ss fault)) rest c.in_err-read_all.ensures.first in
+    rw (p.1, p.2)
+    (or_memory fault (IsFaultOfForms draft (drop 2 (map spoken_of lines)) fault) (IsFirstFaultyLine fault (SaysUpTo c.args.text.now) ⊎ IsFaultOfLater c.args.text.now fault)
+    (λ h. inr (map spoken_of lines, c.in_ok-lines.ensures.ok, inr (draft, begins, h))) stops)

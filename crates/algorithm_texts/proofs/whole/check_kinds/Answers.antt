@@ -1,12 +1,14 @@
-use Rattle.std.proofs.Common.{◌≡◌, ◌⊎◌, ℕ, true}
+use Rattle.std.proofs.Common.{◌≡◌, ◌⊎◌, ℕ, true, inl, inr}
 use Rattle.std.proofs.lemmas.Result.{on_ok_weaker, IfErr-weaker}
 use Rattle.algorithms.specs.declared.algorithm.AlgorithmCall.TheVariants.{Lock, Unlock, Recover, Withdraw}
 use Rattle.algorithm_texts.specs.Drafts.{draft_view}
 use Rattle.algorithm_texts.specs.FinishedDrafts.{is_in}
 use Rattle.algorithm_texts.specs.Runs.{AllRuns, KindComesTo, KindRuns}
+use Rattle.algorithm_texts.specs.TextFaults.{IsFaultOfAllRuns, IsFaultOfKindRuns, OrMemory}
 use Rattle.algorithm_texts.specs.TextLines.{IsRefusalOf}
 use Rattle.algorithm_texts.proofs.Fits.{all_run, on_both}
 use Rattle.algorithm_texts.proofs.RunChecks.{marks_of_all, refused_part, part_refused}
+use Rattle.algorithm_texts.proofs.RunFaults.{or_memory, part_or_memory}
 use Rattle.algorithm_texts.proofs.whole.check_kinds.Goals as goal
 
 pub returns-clause-runs : goal.returns-clause-runs
@@ -49,3 +51,28 @@ pub returns-in_err-check_run-3-clause-err : goal.returns-in_err-check_run-3-clau
 returns-in_err-check_run-3-clause-err c =
     let d = draft_view c.args.draft.now in
     part_refused c.from_residual-in_err-check_run-3.result c.in_err-check_run-3.field-0.0 (KindRuns d Recover) (AllRuns d) c.from_residual-in_err-check_run-3.ensures.1 (λ all. all Recover) c.in_err-check_run-3.ensures.err
+
+pub returns-clause-first : goal.returns-clause-first
+returns-clause-first c =
+    let d = draft_view c.args.draft.now in
+    IfErr-weaker c.check_run-4.result (λ fault. OrMemory fault (IsFaultOfKindRuns d fault Withdraw)) (λ fault. OrMemory fault (IsFaultOfAllRuns d fault))
+    (λ fault. or_memory fault (IsFaultOfKindRuns d fault Withdraw) (IsFaultOfAllRuns d fault)
+    (λ h. inr (c.in_ok-check_run.ensures.runs, inr (c.in_ok-check_run-2.ensures.runs, inr (c.in_ok-check_run-3.ensures.runs, inl h))))) c.check_run-4.ensures.first
+
+pub returns-in_err-check_run-clause-first : goal.returns-in_err-check_run-clause-first
+returns-in_err-check_run-clause-first c =
+    let d = draft_view c.args.draft.now in
+    part_or_memory c.from_residual.result c.in_err-check_run.field-0.0 (λ fault. IsFaultOfKindRuns d fault Lock) (IsFaultOfAllRuns d) c.from_residual.ensures.1 (λ h. inl h)
+    c.in_err-check_run.ensures.first
+
+pub returns-in_err-check_run-2-clause-first : goal.returns-in_err-check_run-2-clause-first
+returns-in_err-check_run-2-clause-first c =
+    let d = draft_view c.args.draft.now in
+    part_or_memory c.from_residual-in_err-check_run-2.result c.in_err-check_run-2.field-0.0 (λ fault. IsFaultOfKindRuns d fault Unlock) (IsFaultOfAllRuns d) c.from_residual-in_err-check_run-2.ensures.1 (λ h. inr (c.in_ok-check_run.ensures.runs, inl h))
+    c.in_err-check_run-2.ensures.first
+
+pub returns-in_err-check_run-3-clause-first : goal.returns-in_err-check_run-3-clause-first
+returns-in_err-check_run-3-clause-first c =
+    let d = draft_view c.args.draft.now in
+    part_or_memory c.from_residual-in_err-check_run-3.result c.in_err-check_run-3.field-0.0 (λ fault. IsFaultOfKindRuns d fault Recover) (IsFaultOfAllRuns d) c.from_residual-in_err-check_run-3.ensures.1 (λ h. inr (c.in_ok-check_run.ensures.runs, inr (c.in_ok-check_run-2.ensures.runs, inl h)))
+    c.in_err-check_run-3.ensures.first

@@ -2,8 +2,10 @@ use Rattle.std.proofs.Common.{inl, sym, ◌∙◌, subst}
 use Rattle.algorithm_texts.specs.Drafts.{draft_view}
 use Rattle.algorithm_texts.specs.Marks.{MarksReached}
 use Rattle.algorithm_texts.specs.Runs.{KindRuns, RunsFit}
+use Rattle.algorithm_texts.specs.TextFaults.{IsFaultOfKindRuns, IsFaultOfRuns}
 use Rattle.algorithm_texts.proofs.Fits.{one_runs, none_runs}
 use Rattle.algorithm_texts.proofs.RunChecks.{kind_marks, kind_comes, none_comes, part_refused}
+use Rattle.algorithm_texts.proofs.RunFaults.{part_or_memory}
 use Rattle.algorithm_texts.proofs.whole.check_run.Goals as goal
 
 pub returns-in_ok-reached-in-Some-clause-runs : goal.returns-in_ok-reached-in-Some-clause-runs
@@ -37,3 +39,9 @@ returns-in_err-reached-in-Some-clause-err c =
     let d = draft_view c.args.draft.now in
     part_refused c.from_residual.result c.in_err-reached-in-Some.field-0.0 (RunsFit d c.in-Some.read) (KindRuns d c.args.call) c.from_residual.ensures.1
     (λ runs. runs c.in-Some.read (sym c.call_of.ensures ∙ c.in-Some.is)) c.in_err-reached-in-Some.ensures.err
+
+pub returns-in_err-reached-in-Some-clause-first : goal.returns-in_err-reached-in-Some-clause-first
+returns-in_err-reached-in-Some-clause-first c =
+    let d = draft_view c.args.draft.now in
+    part_or_memory c.from_residual.result c.in_err-reached-in-Some.field-0.0 (IsFaultOfRuns d c.in-Some.read) (λ fault. IsFaultOfKindRuns d fault c.args.call) c.from_residual.ensures.1
+    (λ h. (c.in-Some.read, sym c.call_of.ensures ∙ c.in-Some.is, h)) c.in_err-reached-in-Some.ensures.first

@@ -1,7 +1,7 @@
-use Rattle.std.proofs.Common.{inr}
+use Rattle.std.proofs.Common.{inl, inr}
 use Rattle.std.proofs.lemmas.Result.{err_from_is_err_and}
 use Rattle.algorithm_texts.specs.Drafts.{draft_view}
-use Rattle.algorithm_texts.proofs.FirstFaults.{any_fault, lines_said}
+use Rattle.algorithm_texts.proofs.DraftFaults.{unread_fault}
 use Rattle.algorithm_texts.proofs.ProgramTrees.{spelled_draft}
 use Rattle.algorithm_texts.proofs.OneDraft.{unspelled, unfit}
 use Rattle.algorithm_texts.proofs.whole.fitting_draft.Goals as goal
@@ -25,9 +25,10 @@ returns-in_err-check_calls-clause-err c =
 pub returns-in_err-draft-clause-first : goal.returns-in_err-draft-clause-first
 returns-in_err-draft-clause-first c =
     let p = err_from_is_err_and c.from_residual.result c.from_residual.ensures.1 in
-    rw (p.1, p.2) c.in_err-draft.ensures.first
+    rw (p.1, p.2) (unread_fault c.args.text.now c.in_err-draft.field-0.0 c.in_err-draft.ensures.first)
 
 pub returns-in_err-check_calls-clause-first : goal.returns-in_err-check_calls-clause-first
 returns-in_err-check_calls-clause-first c =
+    let p = err_from_is_err_and c.from_residual-in_err-check_calls.result c.from_residual-in_err-check_calls.ensures.1 in
     let read = c.in_ok-draft.ensures.ok in
-    any_fault c.from_residual-in_err-check_calls.result (lines_said c.args.text.now read.0 read.1)
+    rw (p.1, p.2) (inr (inr (inr (draft_view c.in_ok-draft.draft, (read.0, read.1, read.2), inl c.in_err-check_calls.ensures.first))))

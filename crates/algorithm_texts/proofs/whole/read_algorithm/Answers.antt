@@ -1,14 +1,16 @@
-use Rattle.std.proofs.Common.{ap, inr, subst}
+use Rattle.std.proofs.Common.{◌⊎◌, ap, inr, subst}
 use Rattle.std.proofs.lemmas.Result.{err_from_is_err_and}
 use Rattle.algorithms.specs.declared.line.AlgorithmDeed.TheVariants.{Enter, Leave}
 use Rattle.algorithm_texts.specs.Drafts.{Drafted, draft_view}
 use Rattle.algorithm_texts.specs.Lawful.{NotesDeed}
-use Rattle.algorithm_texts.specs.Programs.{program_lines}
-use Rattle.algorithm_texts.proofs.FirstFaults.{any_fault, lines_said}
+use Rattle.algorithm_texts.specs.Runs.{AllRuns}
+use Rattle.algorithm_texts.specs.TextFaults.{IsFaultOfAllRuns, IsFaultOfText, IsFaultOfWays}
+use Rattle.algorithm_texts.proofs.DraftFaults.{spelled_fault, flow_fault, deeds_fault}
 use Rattle.algorithm_texts.proofs.LawfulRuns.{deeds_refused, flow_refused}
 use Rattle.algorithm_texts.proofs.NotedLines.{noted_of}
 use Rattle.algorithm_texts.proofs.OneDraft.{no_algorithm, one_draft}
 use Rattle.algorithm_texts.proofs.ProgramTrees.{spelled}
+use Rattle.algorithm_texts.proofs.RunFaults.{part_or_memory}
 use Rattle.algorithm_texts.proofs.whole.read_algorithm.Goals as goal
 
 pub returns-clause-spells : goal.returns-clause-spells
@@ -36,8 +38,9 @@ returns-in_err-draft-clause-refuses c =
 
 pub returns-in_err-check_flow-clause-first : goal.returns-in_err-check_flow-clause-first
 returns-in_err-check_flow-clause-first c =
-    let spells = c.in_ok-draft.ensures.ok in
-    any_fault c.from_residual-in_err-check_flow.result (lines_said c.args.text.now (program_lines spells.program) spells.says)
+    let d = draft_view c.in_ok-draft.draft in
+    part_or_memory c.from_residual-in_err-check_flow.result c.in_err-check_flow.field-0.0 (λ fault. IsFaultOfAllRuns d fault ⊎ (AllRuns d × IsFaultOfWays d fault)) (IsFaultOfText c.args.text.now)
+    c.from_residual-in_err-check_flow.ensures.1 (λ h. spelled_fault c.args.text.now d c.in_err-check_flow.field-0.0 c.in_ok-draft.ensures.ok (flow_fault d c.in_err-check_flow.field-0.0 h)) c.in_err-check_flow.ensures.first
 
 pub returns-in_err-check_flow-clause-refuses : goal.returns-in_err-check_flow-clause-refuses
 returns-in_err-check_flow-clause-refuses c =
@@ -47,8 +50,12 @@ returns-in_err-check_flow-clause-refuses c =
 
 pub returns-in_err-check_deeds-clause-first : goal.returns-in_err-check_deeds-clause-first
 returns-in_err-check_deeds-clause-first c =
-    let spells = c.in_ok-draft.ensures.ok in
-    any_fault c.from_residual-in_err-check_deeds.result (lines_said c.args.text.now (program_lines spells.program) spells.says)
+    let flow = c.in_ok-check_flow.ensures in
+    let d = draft_view c.in_ok-draft.draft in
+    part_or_memory c.from_residual-in_err-check_deeds.result c.in_err-check_deeds.field-0.0 (λ fault. IsFaultOfText c.args.text.now fault) (IsFaultOfText c.args.text.now)
+    c.from_residual-in_err-check_deeds.ensures.1 (λ h. h)
+    (inr (spelled_fault c.args.text.now d c.in_err-check_deeds.field-0.0 c.in_ok-draft.ensures.ok
+    (inr (flow.runs, inr (deeds_fault d c.check_flow.new.draft c.in_err-check_deeds.field-0.0 flow.lines flow.kept c.in_err-check_deeds.ensures.first)))))
 
 pub returns-in_err-check_deeds-clause-refuses : goal.returns-in_err-check_deeds-clause-refuses
 returns-in_err-check_deeds-clause-refuses c =

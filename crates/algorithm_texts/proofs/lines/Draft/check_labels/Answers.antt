@@ -1,10 +1,12 @@
-use Rattle.std.proofs.Common.{◌≡◌, ◌<◌, ◌≤◌, true, ◌&&◌, length, get_or, Some, slice_get, position, refl, sym, ap, ◌∙◌, subst, arith}
+use Rattle.std.proofs.Common.{◌≡◌, ℕ, ◌<◌, ◌≤◌, Bool, true, false, List, ◌&&◌, length, get_or, Some, slice_get, position, refl, sym, ap, ◌∙◌, subst, arith}
 use Rattle.std.specs.Prelude.{bytes_eq}
 use Rattle.std.proofs.lemmas.Bool.{both_ways}
 use Rattle.std.proofs.lemmas.Option.{get_or_from_slice_get, slice_get_read}
+use Rattle.algorithm_texts.specs.declared.lines.CallRead.{CallRead}
 use Rattle.algorithm_texts.specs.declared.lines.Label.{Label}
 use Rattle.algorithm_texts.specs.FinishedDrafts.{is_label_in}
-use Rattle.algorithm_texts.proofs.Fits.{labels_differ, first_of_name}
+use Rattle.algorithm_texts.specs.TextFaults.{LabelNewAt}
+use Rattle.algorithm_texts.proofs.Fits.{label_new, labels_differ, first_of_name}
 use Rattle.algorithm_texts.proofs.RunMarks.{below_next}
 use Rattle.algorithm_texts.proofs.lines.Draft.check_labels.Goals as goal
 use Rattle.algorithm_texts.proofs.lines.Draft.check_labels.Goals.{else-is_in-via-then-is_in+else-not-is_first, else-is_in-via-else-is_in}
@@ -34,14 +36,33 @@ returns-clause-ok c =
     labels_differ c.args.self.now.labels.items c.args.call c.loop-at.at
     (subst (λ ls. length ls ≤ c.loop-at.at) c.deref-label-items.ensures.value c.loop-at-test.false) c.loop-at.invariant
 
-pub returns-then-not-is_first-clause-err : goal.returns-then-not-is_first-clause-err
-returns-then-not-is_first-clause-err c = λ differ.
+unfirst : (labels : List Label) (call : CallRead) (at : ℕ) (label : Label) (first : Bool) → at < length labels → label ≡ get_or labels at label → is_label_in call label ≡ true
+    → ((position (λ other. bytes_eq other.name label.name && is_label_in call other) labels ≡ Some at) → first ≡ true) → first ≡ false → LabelNewAt labels call at → ⊥
+unfirst labels call at label first within there inside f none new =
+    both_ways first none (f (first_of_name labels call at label new (slice_get_read labels (length labels) at label refl within there) inside))
+
+pub returns-then-not-is_first-clause-first : goal.returns-then-not-is_first-clause-first
+returns-then-not-is_first-clause-first c =
     let labels = c.args.self.now.labels.items in
     let label = c.label-item.result in
     let there : label ≡ get_or labels c.loop-at.at label = c.label-item.is ∙ ap (λ ls. get_or ls c.loop-at.at label) c.deref-label-items.ensures.value in
     let within : c.loop-at.at < length labels = subst (λ ls. c.loop-at.at < length ls) c.deref-label-items.ensures.value c.loop-at-test.true in
-    let first = first_of_name labels c.args.call c.loop-at.at label differ (slice_get_read labels (length labels) c.loop-at.at label refl within there) (sym c.is_in.ensures ∙ c.if-is_in.true) in
-    both_ways c.is_first.result c.if-not-is_first.true
-    (c.is_first.ensures.1
-    (subst (λ ls. position (λ other. bytes_eq other.name c.as_bytes.result.now && is_label_in c.args.call other) ls ≡ Some c.loop-at.at) (sym c.as_slice.ensures.value)
-    (subst (λ name. position (λ other. bytes_eq other.name name && is_label_in c.args.call other) labels ≡ Some c.loop-at.at) (sym c.as_bytes.ensures.letters) first)))
+    record {
+      at = c.loop-at.at;
+      label = label;
+      there = slice_get_read labels (length labels) c.loop-at.at label refl within there;
+      first = record {
+        fails = unfirst labels c.args.call c.loop-at.at label c.is_first.result within there (sym c.is_in.ensures ∙ c.if-is_in.true)
+            (λ first. c.is_first.ensures.1
+            (subst (λ ls. position (λ other. bytes_eq other.name c.as_bytes.result.now && is_label_in c.args.call other) ls ≡ Some c.loop-at.at) (sym c.as_slice.ensures.value)
+            (subst (λ name. position (λ other. bytes_eq other.name name && is_label_in c.args.call other) labels ≡ Some c.loop-at.at) (sym c.as_bytes.ensures.letters) first)))
+            c.if-not-is_first.true;
+        before = label_new labels c.args.call c.loop-at.at (λ j b less. c.loop-at.invariant j b less);
+      };
+      named = c.at.ensures;
+    }
+
+pub returns-then-not-is_first-clause-err : goal.returns-then-not-is_first-clause-err
+unfolding returns-then-not-is_first-clause-first
+returns-then-not-is_first-clause-err c = λ differ.
+    (returns-then-not-is_first-clause-first c).first.fails (λ i a b. differ i c.loop-at.at a b)

@@ -7,5 +7,5 @@ use Rattle.algorithm_texts.proofs.lines.Draft.check_reached.Given as goal
 
 -- the lines so far are reached
 abbrev pub invariant-loop-place : goal.invariant-loop-place
-invariant-loop-place l = (at : ℕ) → l.call.«from» ≤ at → at < l.place → passes_at (is_own (draft_view l.self).jumps at) (uses (draft_view l.self).lines) at ≡ true
+invariant-loop-place l = (at : ℕ) → l.fn.call.«from» ≤ at → at < l.place → passes_at (is_own (draft_view l.self).jumps at) (uses (draft_view l.self).lines) at ≡ true
     → is_in l.reached at ≡ true

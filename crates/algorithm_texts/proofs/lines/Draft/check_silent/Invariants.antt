@@ -5,4 +5,4 @@ use Rattle.algorithm_texts.proofs.lines.Draft.check_silent.Given as goal
 
 -- none of the lines so far is seen
 abbrev pub invariant-loop-place : goal.invariant-loop-place
-invariant-loop-place l = (at : ℕ) → l.call.«from» ≤ at → at < l.place → SeenMarked (draft_view l.self) l.call l.silent at → ⊥
+invariant-loop-place l = (at : ℕ) → l.fn.call.«from» ≤ at → at < l.place → SeenMarked (draft_view l.self) l.fn.call l.silent at → ⊥

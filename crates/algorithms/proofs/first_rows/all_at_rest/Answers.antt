@@ -1,7 +1,7 @@
 use Rattle.std.proofs.Common.{◌++◌, ◌∷◌, [], ◌∙◌, ap}
 use Rattle.std.proofs.lemmas.List.{replicate_more}
 use Rattle.algorithms.specs.Worlds.{resting}
-use Rattle.algorithms.proofs.world.all_at_rest.Goals as goal
+use Rattle.algorithms.proofs.first_rows.all_at_rest.Goals as goal
 
 pub loop-process-preserved : goal.loop-process-preserved
 loop-process-preserved c =

@@ -2,7 +2,7 @@ use Rattle.std.proofs.Common.{◌∙◌, ap, slice_set, rules, arith}
 use Rattle.std.proofs.lemmas.Grind.{common_steps}
 use Rattle.algorithms.specs.Worlds.{resting}
 use Rattle.algorithms.proofs.Worlds.{set_next}
-use Rattle.algorithms.proofs.world.rest_all.Goals as goal
+use Rattle.algorithms.proofs.first_rows.rest_all.Goals as goal
 
 pub loop-process-preserved : goal.loop-process-preserved
 loop-process-preserved c =

@@ -1,6 +1,6 @@
 use Rattle.std.proofs.Common.{◌++◌, ◌∷◌, [], ◌∙◌, ap, replicate}
 use Rattle.std.proofs.lemmas.List.{replicate_more}
-use Rattle.algorithms.proofs.world.all_zero.Goals as goal
+use Rattle.algorithms.proofs.first_rows.all_zero.Goals as goal
 
 pub loop-row-preserved : goal.loop-row-preserved
 loop-row-preserved c =

@@ -1,0 +1,64 @@
+use Rattle.std.proofs.Common.{◌≡◌, ℕ, ◌+◌, true, false, map, drop, Some, sym, ap, ◌∙◌}
+use Rattle.std.specs.List.{find}
+use Rattle.algorithms.specs.Faults.{fault_of}
+use Rattle.algorithms.specs.declared.fault.ReadFault.TheVariants.{BadLabel}
+use Rattle.algorithm_texts.specs.declared.lines.Jump.{Jump}
+use Rattle.algorithm_texts.specs.Drafts.{line_of}
+use Rattle.algorithm_texts.specs.FinishedDrafts.{is_within, jumps_led}
+use Rattle.algorithm_texts.specs.TextFaults.{leads_nowhere, number_at}
+use Rattle.algorithm_texts.proofs.CallFaults.{found_here, jump_leads, jump_numbers, leads_to_none, of_another, pass_on, led_on, skip_on}
+use Rattle.algorithm_texts.proofs.RunFaults.{err_named}
+use Rattle.algorithm_texts.proofs.checks.resolve.Goals as goal
+use Rattle.algorithm_texts.proofs.checks.resolve.Goals.{then-is_within+in_ok-lead, else-is_within}
+
+pub loop-jump-preserved : goal.loop-jump-preserved
+loop-jump-preserved c =
+    let labels = c.args.labels.now in
+    let blocks = c.args.blocks.now in
+    let call = c.args.call in
+    let jumps = c.args.jumps.now in
+    let i = c.loop-jump.jump-index in
+    let jump = c.jump-item.result in
+    let was = c.loop-jump.invariant in
+    elim c.if-is_within.branch [
+      | then-is_within+in_ok-lead w ↦
+          let led = w.in_ok-lead.ensures.ok in
+          let same = ap (λ ls. map line_of ls.items) w.lines-is in
+          record {
+            led = ap (λ ls. jumps_led labels blocks call (drop (i + 1) jumps) ls) same
+                ∙ sym (led_on labels blocks call jumps (map line_of c.loop-jump.lines.items) (map line_of w.lead.new.lines.items) i jump c.loop-jump-test.true c.jump-item.is
+                (sym c.is_within.ensures ∙ w.if-is_within.true) led)
+                ∙ was.led;
+            left = pass_on (leads_nowhere labels blocks call) jumps i jump c.loop-jump-test.true c.jump-item.is
+                (jump_leads labels blocks call (map line_of c.loop-jump.lines.items) (map line_of w.lead.new.lines.items) jump led) ∙ was.left;
+            numbers = λ k. ap (λ ls. number_at ls k) same
+                ∙ jump_numbers labels blocks call (map line_of c.loop-jump.lines.items) (map line_of w.lead.new.lines.items) jump led k ∙ was.numbers k;
+          }
+      | else-is_within w ↦
+          let same = ap (λ ls. map line_of ls.items) w.lines-is in
+          let other = sym c.is_within.ensures ∙ w.if-is_within.false in
+          record {
+            led = ap (λ ls. jumps_led labels blocks call (drop (i + 1) jumps) ls) same
+                ∙ sym (skip_on labels blocks call jumps (map line_of c.loop-jump.lines.items) i jump c.loop-jump-test.true c.jump-item.is other) ∙ was.led;
+            left = pass_on (leads_nowhere labels blocks call) jumps i jump c.loop-jump-test.true c.jump-item.is (of_another labels blocks call jump other) ∙ was.left;
+            numbers = λ k. ap (λ ls. number_at ls k) same ∙ was.numbers k;
+          }
+    ]
+
+pub returns-in_err-lead-clause-named : goal.returns-in_err-lead-clause-named
+returns-in_err-lead-clause-named c =
+    let labels = c.args.labels.now in
+    let blocks = c.args.blocks.now in
+    let call = c.args.call in
+    let jumps = c.args.jumps.now in
+    let jump = c.jump-item.result in
+    let named = c.in_err-lead.ensures.named in
+    err_named c.from_residual.result c.in_err-lead.field-0.0
+    (λ fault. (x : Jump) × (find (leads_nowhere labels blocks call) jumps ≡ Some x) × (fault ≡ fault_of (number_at (map line_of c.args.lines.now.items) x.place) BadLabel))
+    c.from_residual.ensures.1 (
+      jump,
+      sym c.loop-jump.invariant.left
+          ∙ found_here (leads_nowhere labels blocks call) jumps c.loop-jump.jump-index jump c.loop-jump-test.true c.jump-item.is
+          (leads_to_none labels blocks call jump (sym c.is_within.ensures ∙ c.if-is_within.true) named.0),
+      named.1 ∙ ap (λ (n : ℕ). fault_of n BadLabel) (c.loop-jump.invariant.numbers jump.place),
+    )

@@ -1,5 +1,5 @@
 -- A judge allows all that the text reports: of a move, of a line, of a run.
-use Rattle.std.proofs.Common.{◌≡◌, ℕ, ◌^◌, ◌≤◌, nat_lt, nat_le, Bool, true, false, ◌&&◌, cond, List, [], ◌∷◌, ◌++◌, Some, None, Ok, refl, sym, ap, ◌∙◌, subst, leb-true}
+use Rattle.std.proofs.Common.{◌≡◌, ℕ, ◌^◌, ◌≤◌, nat_lt, nat_le, Bool, true, false, ◌&&◌, cond, List, [], ◌++◌, Some, None, Ok, refl, sym, ap, ◌∙◌, subst, leb-true}
 use Rattle.rmecore.specs.AbstractLock.{Abstract, nobody}
 use Rattle.rmecore.specs.World.{World, at_rest}
 use Rattle.rmecore.specs.declared.phase.Phase.{Phase}

@@ -19,7 +19,7 @@ use Rattle.rmecore.specs.declared.word.Word.TheVariants.{Choosing as ChoosingOf,
 use Rattle.rmecore.proofs.Bounds.{Within}
 use Rattle.rmecore.proofs.Invariant.{eqb_self}
 use Rattle.rmecore.proofs.Scans.{without-first, has-first}
-use Rattle.algorithms.specs.Accesses.{access_of, index_of, bound_of, value_stored, names_after_read, passes}
+use Rattle.algorithms.specs.Accesses.{access_of, access_after_read, index_of, is_swap, bound_of, value_stored, names_after_read, passes}
 use Rattle.algorithms.specs.Arrivals.{Arrival, arrives, ◌>>=◌}
 use Rattle.algorithm_lab.specs.Bakery.{IsBakery, may_pass}
 use Rattle.algorithms.specs.LocalRuns.{nothing_noted}
@@ -39,7 +39,7 @@ use Rattle.algorithms.specs.declared.constants.Constants.{Constants}
 use Rattle.algorithms.specs.declared.expression.Expression.{Expression, Number, Private, Me, Limit}
 use Rattle.algorithms.specs.declared.line.AccessLine.{AccessLine}
 use Rattle.algorithms.specs.declared.line.Action.{Action}
-use Rattle.algorithms.specs.declared.line.Action.TheVariants.{Load, Store, Await}
+use Rattle.algorithms.specs.declared.line.Action.TheVariants.{Load, Store, Await, Swap}
 use Rattle.algorithms.specs.declared.line.AlgorithmDeed.TheVariants.{Begin}
 use Rattle.algorithms.specs.declared.line.LineKind.TheVariants as forms
 use Rattle.algorithms.specs.declared.process.AlgorithmProcess.{AlgorithmProcess}
@@ -65,7 +65,7 @@ stores_of (Loads kind word) = None
 stores_of (Stores kind word x) = Some x
 
 abbrev pub access_by : LockAccess → WordAccess
-access_by acc = record { address = address_of (word_of acc); stores = stores_of acc }
+access_by acc = record { address = address_of (word_of acc); stores = stores_of acc; swaps = false }
 
 -- a step of the text does what the step of the lock does
 pub record Follows (n limit p : ℕ) (place : Place) (acc : LockAccess) (v : ℕ) (t : Taken) : Type 0 where
@@ -81,7 +81,10 @@ ValueFits limit (Door (j ∷ js) m) v = v ≤ limit
 ValueFits limit place v = Unit {0}
 
 abbrev access_with : ℕ → ℕ → Option ℕ → WordAccess
-access_with d i stores = record { address = record { declaration = d; index = i }; stores = stores }
+access_with d i stores = record { address = record { declaration = d; index = i }; stores = stores; swaps = false }
+
+abbrev access_made : Action → ℕ → ℕ → Option ℕ → WordAccess
+access_made action d i stores = record { address = record { declaration = d; index = i }; stores = stores; swaps = is_swap action }
 
 module _ (a : Algorithm) (b : IsBakery a) (n limit p : ℕ) (own : p < n) (most : n ≤ 64) (high : limit ≤ 2 ^ 62) (words : List (List ℕ)) where
   abbrev me : Constants
@@ -91,13 +94,14 @@ module _ (a : Algorithm) (b : IsBakery a) (n limit p : ℕ) (own : p < n) (most 
 
   access_is : (d i : ℕ) (index : Expression) (action : Action) (may : Bool) (store : List ℕ) (bound : Option Expression) (stores : Option ℕ)
       → HasBound a.declarations.items d bound → expression_value me store index ≡ Some i → i < n
-      → ((declaration : Declaration) → declaration.bound ≡ bound → value_stored me store declaration action ≡ Some stores)
+      → ((declaration : Declaration) → declaration.bound ≡ bound → value_stored me store declaration action ≡ Some stores) → is_swap action ≡ false
       → access_of a.declarations.items me store (record { word = record { declaration = d; index = Some index }; action = action; may_withdraw = may }) ≡ Some (access_with d i stores)
-  access_is d i index action may store bound stores h e low value =
-      ap (λ o. option_and_then (λ declaration. option_and_then (λ j. option_and_then (λ s. Some (access_with d j s)) (value_stored me store declaration action)) (index_of me store (Some index))) o) h.there
-      ∙ ap (λ o. option_and_then (λ j. option_and_then (λ s. Some (access_with d j s)) (value_stored me store h.declaration action)) (option_and_then (λ j. fitting (nat_lt j n) j) o)) e
-      ∙ ap (λ t. option_and_then (λ j. option_and_then (λ s. Some (access_with d j s)) (value_stored me store h.declaration action)) (fitting t i)) (lt-ltb i n low)
-      ∙ ap (λ o. option_and_then (λ s. Some (access_with d i s)) o) (value h.declaration h.is)
+  access_is d i index action may store bound stores h e low value alone =
+      ap (λ o. option_and_then (λ declaration. option_and_then (λ j. option_and_then (λ s. Some (access_made action d j s)) (value_stored me store declaration action)) (index_of me store (Some index))) o) h.there
+      ∙ ap (λ o. option_and_then (λ j. option_and_then (λ s. Some (access_made action d j s)) (value_stored me store h.declaration action)) (option_and_then (λ j. fitting (nat_lt j n) j) o)) e
+      ∙ ap (λ t. option_and_then (λ j. option_and_then (λ s. Some (access_made action d j s)) (value_stored me store h.declaration action)) (fitting t i)) (lt-ltb i n low)
+      ∙ ap (λ o. option_and_then (λ s. Some (access_made action d i s)) o) (value h.declaration h.is)
+      ∙ ap (λ b. Some (record { address = record { declaration = d; index = i }; stores = stores; swaps = b })) alone
 
   bounded : (at : ℕ) (f : Option Expression) → slice_get (Some (Number 1) ∷ Some Limit ∷ Some (Number 1) ∷ []) at ≡ Some f → HasBound a.declarations.items at f
   bounded at f e = has_bound a.declarations.items _ at f b.bounds e
@@ -105,7 +109,7 @@ module _ (a : Algorithm) (b : IsBakery a) (n limit p : ℕ) (own : p < n) (most 
   -- a load, and a store of a number
   loads : (d i : ℕ) (index : Expression) (name : ℕ) (store : List ℕ) (bound : Option Expression) → HasBound a.declarations.items d bound → expression_value me store index ≡ Some i → i < n
       → access_of a.declarations.items me store (record { word = record { declaration = d; index = Some index }; action = Load name; may_withdraw = false }) ≡ Some (access_with d i None)
-  loads d i index name store bound h e low = access_is d i index (Load name) false store bound None h e low (λ declaration is. refl)
+  loads d i index name store bound h e low = access_is d i index (Load name) false store bound None h e low (λ declaration is. refl) refl
 
   stored_by : (store : List ℕ) (value : Expression) (declaration : Declaration) (bound : Option Expression) → declaration.bound ≡ bound
       → value_stored me store declaration (Store value) ≡ option_and_then (λ most. option_and_then (λ v. if nat_le v most then Some (Some v) else None) (expression_value me store value)) (bound_of me store bound)
@@ -117,7 +121,7 @@ module _ (a : Algorithm) (b : IsBakery a) (n limit p : ℕ) (own : p < n) (most 
       → access_of a.declarations.items me store (record { word = record { declaration = d; index = Some Me }; action = Store (Number x); may_withdraw = may }) ≡ Some (access_with d p (Some x))
   marks d x may store h low =
       access_is d p Me (Store (Number x)) may store _ (Some x) h refl own
-      (λ declaration is. stored_by store (Number x) declaration _ is ∙ ap (λ t. if t then Some (Some x) else None) (le-leb x 1 low))
+      (λ declaration is. stored_by store (Number x) declaration _ is ∙ ap (λ t. if t then Some (Some x) else None) (le-leb x 1 low)) refl
 
   -- a store in number
   numbers : (value : Expression) (x : ℕ) (store : List ℕ) → expression_value me store value ≡ Some x → x ≤ limit
@@ -126,7 +130,7 @@ module _ (a : Algorithm) (b : IsBakery a) (n limit p : ℕ) (own : p < n) (most 
       access_is 1 p Me (Store value) false store _ (Some x) (bounded 1 _ refl) refl own
       (λ declaration is. stored_by store value declaration _ is
       ∙ ap (λ o. option_and_then (λ v. if nat_le v limit then Some (Some v) else None) o) e
-      ∙ ap (λ t. if t then Some (Some x) else None) (le-leb x limit low))
+      ∙ ap (λ t. if t then Some (Some x) else None) (le-leb x limit low)) refl
 
   -- ---- one step
 
@@ -137,19 +141,31 @@ module _ (a : Algorithm) (b : IsBakery a) (n limit p : ℕ) (own : p < n) (most 
   after_passes at line store access v goes =
       (if goes then goes_on a me (at + 1) (names_after_read line.action v store) else Ok (stays at store)) >>= (λ moved. Ok (taken_with at access v moved))
 
+  abbrev after_made : ℕ → AccessLine → List ℕ → ℕ → WordAccess → Result Taken AlgorithmRefusal
+  after_made at line store v made = ok_or (passes me (names_after_read line.action v store) line.action) (OutOfRange at) >>= after_passes at line store made v
+
   abbrev after_value : ℕ → AccessLine → List ℕ → WordAccess → ℕ → Result Taken AlgorithmRefusal
-  after_value at line store access v = ok_or (passes me (names_after_read line.action v store) line.action) (OutOfRange at) >>= after_passes at line store access v
+  after_value at line store access v =
+      ok_or (access_after_read a.declarations.items me (names_after_read line.action v store) line.action access) (OutOfRange at) >>= after_made at line store v
+
+  -- all but a swap stays as it was before the read
+  whole : (store : List ℕ) (action : Action) (access : WordAccess) → is_swap action ≡ false → access_after_read a.declarations.items me store action access ≡ Some access
+  whole store (Load name) access alone = refl
+  whole store (Store value) access alone = refl
+  whole store (Await name until) access alone = refl
+  whole store (Swap name value guard until) access alone = absurd (cc)
 
   abbrev after_access : ℕ → AccessLine → List ℕ → WordAccess → Result Taken AlgorithmRefusal
   after_access at line store access = ok_or (value_of words access) (Malformed at) >>= after_value at line store access
 
   -- the step up to the question whether it goes on
   begins : (at : ℕ) (store : List ℕ) (line : AccessLine) (access : WordAccess) (v : ℕ) (goes : Bool) → HasForm a.lines.items at (forms.Access line) → access_of a.declarations.items me store line ≡ Some access
-      → value_of words access ≡ Some v → passes me (names_after_read line.action v store) line.action ≡ Some goes → taken_by a me words (before at store) ≡ after_passes at line store access v goes
-  begins at store line access v goes h e1 e2 e3 =
+      → value_of words access ≡ Some v → passes me (names_after_read line.action v store) line.action ≡ Some goes → is_swap line.action ≡ false → taken_by a me words (before at store) ≡ after_passes at line store access v goes
+  begins at store line access v goes h e1 e2 e3 alone =
       ap (λ r. r >>= (λ l. step_before_access a me words at l store)) (access_there a at line h)
       ∙ ap (λ o. ok_or o (OutOfRange at) >>= after_access at line store) e1
       ∙ ap (λ o. ok_or o (Malformed at) >>= after_value at line store access) e2
+      ∙ ap (λ o. ok_or o (OutOfRange at) >>= after_made at line store v) (whole (names_after_read line.action v store) line.action access alone)
       ∙ ap (λ o. ok_or o (OutOfRange at) >>= after_passes at line store access v) e3
 
   went_on : (at : ℕ) (store : List ℕ) (l : Arrival) → From a b me 60 (local at store nothing_noted) ≡ Ok l → goes_on a me at store ≡ Ok (move_of_arrival 0 l)
@@ -169,22 +185,22 @@ module _ (a : Algorithm) (b : IsBakery a) (n limit p : ℕ) (own : p < n) (most 
   arrived place to acc v t e h = subst (λ o. Stands n limit p (unwrap_or o place) t) (sym e) h
 
   steps_on : (place to : Place) (acc : LockAccess) (v at x : ℕ) (store : List ℕ) (line : AccessLine) → HasForm a.lines.items at (forms.Access line)
-      → access_of a.declarations.items me store line ≡ Some (access_by acc) → value_of words (access_by acc) ≡ Some x → passes me (names_after_read line.action x store) line.action ≡ Some true
+      → access_of a.declarations.items me store line ≡ Some (access_by acc) → value_of words (access_by acc) ≡ Some x → passes me (names_after_read line.action x store) line.action ≡ Some true → is_swap line.action ≡ false
       → Lands a b n limit p own most high 60 (at + 1) (names_after_read line.action x store) to (step_deed p place (kind_of acc) (carried_value acc v)) (answer place (kind_of acc) (carried_value acc v))
       → Leads place acc v to → Step place (before at store) acc v
-  steps_on place to acc v at x store line h e1 e2 e3 l leads = (
+  steps_on place to acc v at x store line h e1 e2 e3 alone l leads = (
     taken_with at (access_by acc) x (move_of_arrival 0 l.landing),
-    begins at store line (access_by acc) x true h e1 e2 e3 ∙ ap (λ r. r >>= (λ moved. Ok (taken_with at (access_by acc) x moved))) (went_on (at + 1) (names_after_read line.action x store) l.landing l.run),
+    begins at store line (access_by acc) x true h e1 e2 e3 alone ∙ ap (λ r. r >>= (λ moved. Ok (taken_with at (access_by acc) x moved))) (went_on (at + 1) (names_after_read line.action x store) l.landing l.run),
     record { access = refl; noted = l.noted; answer = l.answer; stands = arrived place to acc v _ leads l.stands },
   )
 
   -- a blocked reading
   blocks : (place : Place) (acc : LockAccess) (v at x : ℕ) (store : List ℕ) (line : AccessLine) → HasForm a.lines.items at (forms.Access line)
-      → access_of a.declarations.items me store line ≡ Some (access_by acc) → value_of words (access_by acc) ≡ Some x → passes me (names_after_read line.action x store) line.action ≡ Some false
+      → access_of a.declarations.items me store line ≡ Some (access_by acc) → value_of words (access_by acc) ≡ Some x → passes me (names_after_read line.action x store) line.action ≡ Some false → is_swap line.action ≡ false
       → noted_by (step_deed p place (kind_of acc) (carried_value acc v)) ≡ nothing_noted → option_map answer_number (answer place (kind_of acc) (carried_value acc v)) ≡ None
       → Stands n limit p place (before at store) → Leads place acc v place → Step place (before at store) acc v
-  blocks place acc v at x store line h e1 e2 e3 d r stands leads =
-      (taken_with at (access_by acc) x (stays at store), begins at store line (access_by acc) x false h e1 e2 e3, record { access = refl; noted = sym d; answer = sym r; stands = arrived place place acc v _ leads stands })
+  blocks place acc v at x store line h e1 e2 e3 alone d r stands leads =
+      (taken_with at (access_by acc) x (stays at store), begins at store line (access_by acc) x false h e1 e2 e3 alone, record { access = refl; noted = sym d; answer = sym r; stands = arrived place place acc v _ leads stands })
 
   -- it stops at once
   lands_at : (at : ℕ) (store : List ℕ) (place : Place) (line : AccessLine) → HasForm a.lines.items at (forms.Access line) → Stands n limit p place (before at store) → Lands a b n limit p own most high 60 at store place None None
@@ -212,7 +228,7 @@ module _ (a : Algorithm) (b : IsBakery a) (n limit p : ℕ) (own : p < n) (most 
       → Leads place acc v to → Step place (before at store) acc v
   rereads place to acc v at d name store bound h has same reports l leads =
       steps_on place to acc v at v store _ h (loads d p Me name store bound has refl own ∙ ap Some (sym same))
-      (ap (λ acc. option_or acc.stores (word_at words acc.address)) same ∙ ap (λ acc. word_at words acc.address) (sym same) ∙ reports) refl l leads
+      (ap (λ acc. option_or acc.stores (word_at words acc.address)) same ∙ ap (λ acc. word_at words acc.address) (sym same) ∙ reports) refl refl l leads
 
   -- a store without a value to receive
   stores : (place to : Place) (acc : LockAccess) (v at x : ℕ) (store : List ℕ) (d : ℕ) (value : Expression) (may : Bool)
@@ -222,7 +238,7 @@ module _ (a : Algorithm) (b : IsBakery a) (n limit p : ℕ) (own : p < n) (most 
       → Lands a b n limit p own most high 60 (at + 1) store to (step_deed p place (kind_of acc) (carried_value acc v)) (answer place (kind_of acc) (carried_value acc v))
       → Leads place acc v to → Step place (before at store) acc v
   stores place to acc v at x store d value may h e same l leads =
-      steps_on place to acc v at x store _ h (e ∙ ap Some (sym same)) (ap (λ acc. option_or acc.stores (word_at words acc.address)) same) refl l leads
+      steps_on place to acc v at x store _ h (e ∙ ap Some (sym same)) (ap (λ acc. option_or acc.stores (word_at words acc.address)) same) refl refl l leads
 
   lock_choosing : (v : ℕ) → Report (Loads Rereads (ChoosingOf p)) v → Step (Reread Lock []) (before 0 no_names) (Loads Rereads (ChoosingOf p)) v
   lock_choosing v reports =
@@ -263,7 +279,7 @@ module _ (a : Algorithm) (b : IsBakery a) (n limit p : ℕ) (own : p < n) (most 
   peeks : (x : Names) (j m : ℕ) (js : List ℕ) (v : ℕ) → m ≤ limit → v ≤ limit → IsLoop n p j js → Report (Loads Peeks (NumberOf j)) v → Step (Door (j ∷ js) m) (before 18 (names x.c x.k x.i m j x.v)) (Loads Peeks (NumberOf j)) v
   peeks x j m js v low small loop reports =
       steps_on (Door (j ∷ js) m) (Door js (max m v)) (Loads Peeks (NumberOf j)) v 18 v (names x.c x.k x.i m j x.v) _ (has_form a b 18 _ refl)
-      (loads 1 j (Private 4) 5 (names x.c x.k x.i m j x.v) _ (bounded 1 _ refl) refl loop.0) reports refl
+      (loads 1 j (Private 4) 5 (names x.c x.k x.i m j x.v) _ (bounded 1 _ refl) refl loop.0) reports refl refl
       (stopped a b n limit p own most high 60 19 (names x.c x.k x.i m j v) (Door js (max m v)) (lands.peeked a b n limit p own most high 55 x.c x.k x.i m j v js loop.0 low small (sym loop.1)))
       (ap (λ t. only t (Door (without j (j ∷ js)) (max m v))) (has-first j js) ∙ ap (λ l. Some (Door l (max m v))) (ap (λ l. without j (j ∷ l)) loop.1 ∙ without-first n p j ∙ sym loop.1))
 
@@ -297,17 +313,17 @@ module _ (a : Algorithm) (b : IsBakery a) (n limit p : ℕ) (own : p < n) (most 
 
   awaits : (d j name : ℕ) (store : List ℕ) (until : Condition) (bound : Option Expression) → HasBound a.declarations.items d bound → expression_value me store (Private 4) ≡ Some j → j < n
       → access_of a.declarations.items me store (record { word = record { declaration = d; index = Some (Private 4) }; action = Await name until; may_withdraw = true }) ≡ Some (access_with d j None)
-  awaits d j name store until bound h e low = access_is d j (Private 4) (Await name until) true store bound None h e low (λ declaration is. refl)
+  awaits d j name store until bound h e low = access_is d j (Private 4) (Await name until) true store bound None h e low (λ declaration is. refl) refl
 
   looks : (x : Names) (k j : ℕ) (js : List ℕ) (v : ℕ) (t : Bool) → (v == 0) ≡ t → IsLoop n p j js → Report (Loads Looks (ChoosingOf j)) v → Step (Wait k (j ∷ js) None) (before 30 (names x.c k x.i x.m j x.v)) (Loads Looks (ChoosingOf j)) v
   looks x k j js v true e loop reports =
       steps_on (Wait k (j ∷ js) None) (Wait k (j ∷ js) (Some j)) (Loads Looks (ChoosingOf j)) v 30 v (names x.c k x.i x.m j x.v) _ (has_form a b 30 _ refl)
-      (awaits 0 j 0 (names x.c k x.i x.m j x.v) (Compare Equal (Private 0) (Number 0)) _ (bounded 0 _ refl) refl loop.0) reports (ap Some (eq_cmp v 0 ∙ e))
+      (awaits 0 j 0 (names x.c k x.i x.m j x.v) (Compare Equal (Private 0) (Number 0)) _ (bounded 0 _ refl) refl loop.0) reports (ap Some (eq_cmp v 0 ∙ e)) refl
       (lands_at 31 (names v k x.i x.m j x.v) (Wait k (j ∷ js) (Some j)) _ (has_form a b 31 _ refl) (record x { c = v }, refl, loop.0, ap (λ l. j ∷ l) loop.1))
       (rw (eqb_self j, e))
   looks x k j js v false e loop reports =
       blocks (Wait k (j ∷ js) None) (Loads Looks (ChoosingOf j)) v 30 v (names x.c k x.i x.m j x.v) _ (has_form a b 30 _ refl)
-      (awaits 0 j 0 (names x.c k x.i x.m j x.v) (Compare Equal (Private 0) (Number 0)) _ (bounded 0 _ refl) refl loop.0) reports (ap Some (eq_cmp v 0 ∙ e)) refl refl
+      (awaits 0 j 0 (names x.c k x.i x.m j x.v) (Compare Equal (Private 0) (Number 0)) _ (bounded 0 _ refl) refl loop.0) reports (ap Some (eq_cmp v 0 ∙ e)) refl refl refl
       (x, refl, loop) (rw (eqb_self j, e))
 
   passes_test : (x : Names) (k j v : ℕ) → passes me (names x.c k x.i x.m j v) (Await 5 (may_pass b.lock_boxes)) ≡ Some ((v == 0) || is_before k p v j)
@@ -317,12 +333,12 @@ module _ (a : Algorithm) (b : IsBakery a) (n limit p : ℕ) (own : p < n) (most 
       → Step (Wait k unpassed (Some j)) (before 31 (names x.c k x.i x.m j x.v)) (Loads Weighs (NumberOf j)) v
   weighs x k j unpassed v true e low is reports =
       steps_on (Wait k unpassed (Some j)) (Wait k (above n p (j + 1)) None) (Loads Weighs (NumberOf j)) v 31 v (names x.c k x.i x.m j x.v) _ (has_form a b 31 _ refl)
-      (awaits 1 j 5 (names x.c k x.i x.m j x.v) (may_pass b.lock_boxes) _ (bounded 1 _ refl) refl low) reports (passes_test x k j v ∙ ap Some e)
+      (awaits 1 j 5 (names x.c k x.i x.m j x.v) (may_pass b.lock_boxes) _ (bounded 1 _ refl) refl low) reports (passes_test x k j v ∙ ap Some e) refl
       (stopped a b n limit p own most high 60 32 (names x.c k x.i x.m j v) (Wait k (above n p (j + 1)) None) (lands.passed a b n limit p own most high 58 x.c k x.i x.m j v (above n p (j + 1)) low refl))
       (rw (eqb_self j, e) (ap (λ l. Some (Wait k l None)) (ap (without j) is ∙ without-first n p j)))
   weighs x k j unpassed v false e low is reports =
       blocks (Wait k unpassed (Some j)) (Loads Weighs (NumberOf j)) v 31 v (names x.c k x.i x.m j x.v) _ (has_form a b 31 _ refl)
-      (awaits 1 j 5 (names x.c k x.i x.m j x.v) (may_pass b.lock_boxes) _ (bounded 1 _ refl) refl low) reports (passes_test x k j v ∙ ap Some e) refl refl
+      (awaits 1 j 5 (names x.c k x.i x.m j x.v) (may_pass b.lock_boxes) _ (bounded 1 _ refl) refl low) reports (passes_test x k j v ∙ ap Some e) refl refl refl
       (x, refl, low, is) (rw (eqb_self j, e))
 
   enters : (x : Names) (k v : ℕ) → Step (Wait k [] None) (before 33 (names x.c k x.i x.m x.j x.v)) (Stores Marks (InsideOf p) 1) v

@@ -1,5 +1,5 @@
 -- What is reported, judged deed by deed.
-use Rattle.std.proofs.Common.{◌≡◌, ℕ, ◌+◌, ◌<◌, List, [], ◌∷◌, ◌++◌, length, get_or, take}
+use Rattle.std.proofs.Common.{ℕ, ◌+◌, ◌<◌, List, [], ◌∷◌, ◌++◌, length, get_or, take}
 use Rattle.std.proofs.lemmas.List.{take_more}
 use Rattle.schedule.proofs.Heard.{hears_both}
 use Rattle.schedule.specs.RunningVerdicts.{RunningJudge, Hears}

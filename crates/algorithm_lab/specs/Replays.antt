@@ -36,15 +36,28 @@ text_by (Some refusal) run = reports_text run.left.world.algorithm run.reports
 abbrev pub text_of : AlgorithmRun (ℕ × RunRefusal) → List ℕ
 text_of run = text_by run.refused run
 
+-- this is how a run ends: with the verdict on what it reports, or with the line that is refused
+abbrev pub HasEnd : AlgorithmRun (ℕ × RunRefusal) → Result Verdict (ℕ × RunRefusal) → Type 0
+HasEnd run (Ok verdict) = (run.refused ≡ None) × (verdict ≡ verdict_of run.left.world.procs run.reports)
+HasEnd run (Err refusal) = run.refused ≡ Some refusal
+
+-- what is answered of a run that has ended so
+abbrev pub end_answer : Result Verdict (ℕ × RunRefusal) → Result Verdict AlgorithmReplayFault
+end_answer (Ok verdict) = Ok verdict
+end_answer (Err (line, refusal)) = Err (faults.Refused line refusal)
+
 -- it is the text of this run, with its verdict or the line that is refused
 abbrev pub IsReplayText : AlgorithmRun (ℕ × RunRefusal) → List ℕ → Result Verdict (ℕ × RunRefusal) → Type 0
-IsReplayText run text (Ok verdict) = (text ≡ text_of run) × (run.refused ≡ None) × (verdict ≡ verdict_of run.left.world.procs run.reports)
-IsReplayText run text (Err refusal) = (text ≡ text_of run) × (run.refused ≡ Some refusal)
+IsReplayText run text ended = (text ≡ text_of run) × HasEnd run ended
 
--- the report is written and its verdict answered, or the reason why not. A sink that fails has taken a beginning of the text,
--- and has failed once more
+-- this text of a run is written and its verdict answered, or the reason why not. A sink that fails has taken a beginning of the
+-- text, and has failed once more
+abbrev pub WritesRunText : Tape → Tape → List ℕ → AlgorithmRun (ℕ × RunRefusal) → Result Verdict AlgorithmReplayFault → Type 0
+WritesRunText before now text run (Ok verdict) = Writes before now text × (run.refused ≡ None) × (verdict ≡ verdict_of run.left.world.procs run.reports)
+WritesRunText before now text run (Err (faults.Refused line refusal)) = Writes before now text × (run.refused ≡ Some (line, refusal))
+WritesRunText before now text run (Err faults.Write) = Begins before.taken now.taken text × (now.failures ≡ min (before.failures + 1) (2 ^ 64 - 1))
+WritesRunText before now text run (Err faults.OutOfMemory) = now ≡ before
+
+-- a replay writes its report
 abbrev pub ReplaysAlgorithm : Tape → Tape → AlgorithmRun (ℕ × RunRefusal) → Result Verdict AlgorithmReplayFault → Type 0
-ReplaysAlgorithm before now run (Ok verdict) = Writes before now (text_of run) × (run.refused ≡ None) × (verdict ≡ verdict_of run.left.world.procs run.reports)
-ReplaysAlgorithm before now run (Err (faults.Refused line refusal)) = Writes before now (text_of run) × (run.refused ≡ Some (line, refusal))
-ReplaysAlgorithm before now run (Err faults.Write) = Begins before.taken now.taken (text_of run) × (now.failures ≡ min (before.failures + 1) (2 ^ 64 - 1))
-ReplaysAlgorithm before now run (Err faults.OutOfMemory) = now ≡ before
+ReplaysAlgorithm before now run answer = WritesRunText before now (text_of run) run answer

@@ -53,7 +53,10 @@ words_text procs rows at (declaration ∷ declarations) =
 abbrev pub verdict_of : ℕ → List TextReport → Verdict
 verdict_of procs reports = verdict_on (empty_state procs 1) (deeds_of reports)
 
--- the report of a run that reports this, and leaves this world
+-- the end of the report of a run that reports this, and leaves this world: the shared words, and the verdict
+abbrev pub report_end : AlgorithmWorldState → List TextReport → List ℕ
+report_end w reports = words_text w.procs w.words 0 w.algorithm.declarations.items ++ verdict_line (verdict_of w.procs reports)
+
+-- its report
 abbrev pub report_text : AlgorithmWorldState → List TextReport → List ℕ
-report_text w reports =
-    reports_text w.algorithm reports ++ words_text w.procs w.words 0 w.algorithm.declarations.items ++ verdict_line (verdict_of w.procs reports)
+report_text w reports = reports_text w.algorithm reports ++ report_end w reports

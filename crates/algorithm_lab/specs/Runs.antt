@@ -61,7 +61,7 @@ start_part m p call = part_of_start (start_by m p (call_of call))
 abbrev pub said_by : MonitorState → ℕ → Result (Advanced × AlgorithmWorldState) AlgorithmRefusal → MonitorStep
 said_by m p (Ok s) = record { advanced = s.0; phase = phase_of m p; promises = m.world.algorithm.promises }
 said_by m p (Err e) =
-    let nothing : Advanced = record { access = record { address = record { declaration = 0; index = 0 }; stores = None }; value = 0; noted = nothing_noted; answer = None; blocked = false } in
+    let nothing : Advanced = record { access = record { address = record { declaration = 0; index = 0 }; stores = None; swaps = false }; value = 0; noted = nothing_noted; answer = None; blocked = false } in
     record { advanced = nothing; phase = Out; promises = m.world.algorithm.promises }
 
 abbrev pub monitor_transitions : Transitions MonitorState MonitorStep MonitorCrash RunRefusal

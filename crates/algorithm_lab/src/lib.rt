@@ -18,7 +18,7 @@ pub mod verdict;
 pub use line_play::{hear_lines, play_lines};
 pub use monitor::{Monitor, MonitorCheckpoint};
 pub use monitor_event::{MonitorCrash, MonitorStep};
-pub use replay::replay_algorithm;
+pub use replay::{ReplayText, replay_algorithm, report_of_run};
 pub use replay_fault::AlgorithmReplayFault;
 pub use run_refusal::RunRefusal;
 pub use run_report::TextReport;

@@ -1,9 +1,10 @@
 //! Replays a schedule on an algorithm.
 
-ghost use Rattle.std.specs.Prelude.{◌≡◌, ◌+◌, ◌-◌, ◌^◌, min, OnOk, OnErr, IfOk, Some, None};
+ghost use Rattle.std.specs.Prelude.{◌≡◌, ℕ, ◌+◌, ◌-◌, ◌^◌, min, OnOk, OnErr, IfOk, Some, None};
 ghost use Rattle.schedule.specs.Tapes.{Writes, Begins};
-ghost use Rattle.algorithm_lab.specs.Runs.{run_on};
-ghost use Rattle.algorithm_lab.specs.Replays.{run_of, IsReplayText, ReplaysAlgorithm};
+ghost use Rattle.algorithm_lab.specs.Runs.{AlgorithmRun, run_on};
+ghost use Rattle.algorithm_lab.specs.Replays.{end_answer, run_of, HasEnd, IsReplayText, ReplaysAlgorithm, WritesRunText};
+ghost use Rattle.algorithm_lab.specs.declared.run_refusal.RunRefusal.{RunRefusal as AnyRefusal};
 
 use crate::line_play::play_lines;
 use crate::monitor::Monitor;
@@ -15,11 +16,11 @@ use schedule::texts::device::write_all;
 use schedule::{Failed, Schedule, Sink, Verdict};
 use std::alloc::{AllocError, Global};
 
-/// What a replay writes, with its verdict or the line that is refused.
+/// What is written of a run, with its verdict or the line that is refused.
 #[derive(Drop)]
-struct Replayed {
-    text: Vec<u8>,
-    ended: Result<Verdict, (u64, RunRefusal)>,
+pub struct ReplayText {
+    pub text: Vec<u8>,
+    pub ended: Result<Verdict, (u64, RunRefusal)>,
 }
 
 /// Writes a text and flushes the sink.
@@ -32,9 +33,37 @@ fn put_out<W: Sink>(w: &mut W, text: &[u8]) -> Result<(), Failed>
     w.flush()
 }
 
-/// Replays a schedule on a new world.
-fn play(alloc: Global, mut monitor: Monitor, schedule: &Schedule) -> Result<Replayed, AllocError>
-    ensures { IfOk result (λ replayed. IsReplayText (run_on 2 monitor schedule.now.lines) replayed.text.items replayed.ended) }
+/// What is answered of a run that has ended so.
+fn answer_of(ended: &Result<Verdict, (u64, RunRefusal)>) -> Result<Verdict, AlgorithmReplayFault>
+    ensures { result ≡ end_answer ended.now }
+{
+    match ended {
+        Ok(verdict) => Ok(*verdict),
+        Err((line, refusal)) => Err(AlgorithmReplayFault::Refused {
+            line: *line,
+            refusal: *refusal,
+        }),
+    }
+}
+
+impl ReplayText {
+    /// Writes the text, flushes the sink, and answers how the run has ended.
+    pub fn write_to<W: Sink>(&self, w: &mut W) -> Result<Verdict, AlgorithmReplayFault>
+        ensures { (run : AlgorithmRun (ℕ × AnyRefusal)) → HasEnd run self.now.ended
+            → WritesRunText (W.tape w.old) (W.tape w.new) self.now.text.items run result }
+    {
+        put_out(w, self.text.as_slice())?;
+        answer_of(&self.ended)
+    }
+}
+
+/// The report of a run, or what it reports before the line that is refused; and how the run ends.
+pub fn report_of_run(
+    alloc: Global,
+    mut monitor: Monitor,
+    schedule: &Schedule,
+) -> Result<ReplayText, AllocError>
+    ensures { IfOk result (λ replay. IsReplayText (run_on 2 monitor schedule.now.lines) replay.text.items replay.ended) }
 {
     let mut reports = Vec::new(alloc);
     let refused = play_lines(&mut monitor, schedule.lines(), &mut reports)?;
@@ -47,7 +76,7 @@ fn play(alloc: Global, mut monitor: Monitor, schedule: &Schedule) -> Result<Repl
             Err(refused)
         }
     };
-    Ok(Replayed { text, ended })
+    Ok(ReplayText { text, ended })
 }
 
 /// Replays a schedule on a new world of an algorithm, before a judge of a new lock. It writes exactly the report of the run that
@@ -63,10 +92,6 @@ pub fn replay_algorithm<W: Sink>(
         (run_of algorithm schedule.now.procs schedule.now.limit schedule.now.lines) result }
 {
     let monitor = Monitor::of_schedule(alloc, algorithm, schedule)?;
-    let replayed = play(alloc, monitor, schedule)?;
-    put_out(w, replayed.text.as_slice())?;
-    match replayed.ended {
-        Ok(verdict) => Ok(verdict),
-        Err((line, refusal)) => Err(AlgorithmReplayFault::Refused { line, refusal }),
-    }
+    let replay = report_of_run(alloc, monitor, schedule)?;
+    replay.write_to(w)
 }

@@ -40,19 +40,20 @@ pub use Rattle.rmeworld.specs.MachineState.{MachineState, access_by, process_sta
 pub use Rattle.rmeworld.specs.World.{reading_of}
 pub use Rattle.schedule.specs.declared.lines.line.Line.TheVariants.{Start}
 pub use Rattle.schedule.specs.Schedules.{Scheduled}
-pub use Rattle.crashlab.specs.declared.change.Change.{Change}
-pub use Rattle.crashlab.specs.declared.change.Change.TheVariants.{Nothing, LeavesOut, Counts, Counted}
-pub use Rattle.crashlab.specs.declared.deviation.Deviation.{Deviation}
-pub use Rattle.crashlab.specs.declared.deviation.Deviation.TheVariants.{Straight, Dropping, Over}
-pub use Rattle.crashlab.specs.declared.moves.MoveOutcome.TheVariants.{On}
-pub use Rattle.crashlab.specs.declared.variant.Variant.{Variant}
-pub use Rattle.crashlab.specs.declared.variant.Variant.TheVariants.{Right, NoLook, NoTies, Renumber, ExitOnCrash, CountUp, LastSkipped}
-pub use Rattle.crashlab.specs.Found.{EndsMove, IsDeedGiven, with_line, line_by}
-pub use Rattle.crashlab.specs.Hunts.{first_world, deeds_of_lines, IsPlayed}
-pub use Rattle.crashlab.specs.LockWorlds.{IsLockWorld}
-pub use Rattle.crashlab.specs.VariantRuns.{IsVariantRun, process_state_at}
-pub use Rattle.crashlab.specs.VariantScripts.{raised_count, counting_up, leaving_out}
-pub use Rattle.crashlab.specs.VariantProcessStates.{beside, variant_begun, variant_process_state, variant_outer, at_variant, variant_moved, variant_outer_by, variant_answer_by, variant_done_by, variant_answer_at, variant_done_at}
-pub use Rattle.crashlab.specs.VariantStands.{changed_script_state, changed_access, weigh_for_look, access_beside, is_put, VariantMachineState, variant_process_state_of, outside_at, over_by, over_way, silent_outcome, IsRightProcess, variant_resting, variant_crashed, variant_next_access, variant_stepped, stepped_beside, variant_outcome, outcome_beside, variant_started, change_of, changed_script, unless_answered, plain_outcome, by_row, last_put_next}
-pub use Rattle.crashlab.specs.VariantWorlds.{VariantState, machine_state_at, access_at, advance_refusal, unless_step, start_refusal, variant_step_report, variant_after_step, advanced_if, crash_deed, variant_after_crash, IsVariantConfigured, at_rest_from, new_world, found_by, HasVariantConfiguration, outcome_of, deeds_of, stepped_by, advanced_by, stepped_if}
-pub use Rattle.crashlab.specs.Variants.{variant_access, and_deviation}
+pub use Rattle.crashlab.specs.declared.variants.change.Change.{Change}
+pub use Rattle.crashlab.specs.declared.variants.change.Change.TheVariants.{Nothing, LeavesOut, Counts, Counted}
+pub use Rattle.crashlab.specs.declared.variants.deviation.Deviation.{Deviation}
+pub use Rattle.crashlab.specs.declared.variants.deviation.Deviation.TheVariants.{Straight, Dropping, Over}
+pub use Rattle.crashlab.specs.declared.variants.judge_feed.MoveOutcome.TheVariants.{On}
+pub use Rattle.crashlab.specs.declared.variants.variant.Variant.{Variant}
+pub use Rattle.crashlab.specs.declared.variants.variant.Variant.TheVariants.{Right, NoLook, NoTies, Renumber, ExitOnCrash, CountUp, LastSkipped}
+pub use Rattle.crashlab.specs.hunts.Found.{EndsMove, with_line, line_by}
+pub use Rattle.crashlab.specs.variants.JudgeFeeds.{IsDeedGiven}
+pub use Rattle.crashlab.specs.hunts.Hunts.{first_world, deeds_of_lines, IsPlayed}
+pub use Rattle.crashlab.specs.variants.LockWorlds.{IsLockWorld}
+pub use Rattle.crashlab.specs.variants.VariantRuns.{IsVariantRun, process_state_at}
+pub use Rattle.crashlab.specs.variants.VariantScripts.{raised_count, counting_up, leaving_out}
+pub use Rattle.crashlab.specs.variants.VariantProcessStates.{beside, variant_begun, variant_process_state, variant_outer, at_variant, variant_moved, variant_outer_by, variant_answer_by, variant_done_by, variant_answer_at, variant_done_at}
+pub use Rattle.crashlab.specs.variants.VariantStands.{changed_script_state, changed_access, weigh_for_look, access_beside, is_put, VariantMachineState, variant_process_state_of, outside_at, over_by, over_way, silent_outcome, IsRightProcess, variant_resting, variant_crashed, variant_next_access, variant_stepped, stepped_beside, variant_outcome, outcome_beside, variant_started, change_of, changed_script, unless_answered, plain_outcome, by_row, last_put_next}
+pub use Rattle.crashlab.specs.variants.VariantWorlds.{VariantState, machine_state_at, access_at, advance_refusal, unless_step, start_refusal, variant_step_report, variant_after_step, advanced_if, crash_deed, variant_after_crash, IsVariantConfigured, at_rest_from, new_world, found_by, HasVariantConfiguration, outcome_of, deeds_of, stepped_by, advanced_by, stepped_if}
+pub use Rattle.crashlab.specs.variants.Variants.{variant_access, and_deviation}

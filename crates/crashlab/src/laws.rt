@@ -1,17 +1,18 @@
 //! Laws of worlds of the variants. Each is the contract of a function that does nothing.
 
-ghost use Rattle.std.specs.Prelude.{◌≡◌, ◌<◌, ℕ, Some, None};
+ghost use Rattle.std.specs.Prelude.{◌≡◌, ◌+◌, ◌<◌, ℕ, Some, None};
 ghost use Rattle.rmecore.specs.Machine.{kind_of, carried_value};
 ghost use Rattle.rmecore.specs.declared.access.Access.{Access};
 ghost use Rattle.redomail.specs.declared.layout.Layout.{Layout};
 ghost use Rattle.rmeworld.specs.declared.call.Call.{Call};
 ghost use Rattle.rmeworld.specs.ProcessState.{ProcessState, WorldEvent, Begins, Falls, at_rest, next_process_state, lock_deed};
-ghost use Rattle.crashlab.specs.declared.deviation.Deviation.TheVariants.{Straight};
-ghost use Rattle.crashlab.specs.VariantProcessStates.{beside, variant_process_state, variant_outer, variant_answer_at, variant_done_at, variant_access_at};
-ghost use Rattle.crashlab.specs.VariantWorlds.{VariantState, new_world, start_refusal, variant_after_start, access_at, found_by, variant_step_report, variant_after_step, variant_after_crash};
-ghost use Rattle.crashlab.specs.VariantRuns.{IsVariantRun, process_state_at, move};
+ghost use Rattle.crashlab.specs.hunts.Hunted.{found_from, hunt_result, or_else};
+ghost use Rattle.crashlab.specs.declared.variants.deviation.Deviation.TheVariants.{Straight};
+ghost use Rattle.crashlab.specs.variants.VariantProcessStates.{beside, variant_process_state, variant_outer, variant_answer_at, variant_done_at, variant_access_at};
+ghost use Rattle.crashlab.specs.variants.VariantWorlds.{VariantState, new_world, start_refusal, variant_after_start, access_at, found_by, variant_step_report, variant_after_step, variant_after_crash};
+ghost use Rattle.crashlab.specs.variants.VariantRuns.{IsVariantRun, process_state_at, move};
 
-use crate::variant::Variant;
+use crate::variants::variant::Variant;
 
 /// In every run of a world of a variant each process follows the variant's definition. This is the lock's, but for the rows
 /// that the variant changes. A process begins at rest. Its starts, steps and crashes lead where the definition says.
@@ -39,6 +40,16 @@ pub fn variants_keep_to_their_rows()
     ensures falls { (s : VariantState) (p : ℕ) → IsVariantRun s → p < s.layout.procs
         → variant_process_state s.variant s.layout s.limit (process_state_at s p) (Falls p)
         ≡ Some (process_state_at (variant_after_crash s p) p) }
+{}
+
+/// A hunt is that of its parts: what some rounds find is what the first of them find, or else what those after them find. So of shards
+/// that share out the rounds of a hunt, the least that finds a schedule finds that of the whole hunt.
+pub fn hunts_are_of_their_parts()
+    ensures parts { (variant : Variant) (seed steps first rounds more : ℕ)
+        → found_from variant seed steps first (rounds + more)
+        ≡ or_else (found_from variant seed steps first rounds) (found_from variant seed steps (first + rounds) more) }
+    ensures whole { (variant : Variant) (seed rounds steps : ℕ)
+        → hunt_result variant seed rounds steps ≡ found_from variant seed steps 0 rounds }
 {}
 
 /// The variant that is the lock changes no row: its process states and its deeds are the lock's.

@@ -1,34 +1,23 @@
-//! Wrong variants of the lock, the hunt that finds their faults, and the minimizing of schedules.
+//! Wrong variants of the lock, the hunt that finds their faults, and the minimizing of schedules. Its rooms, in `src`, `specs` and
+//! `proofs`: `variants`, `hunts`, `minimization`; `words` and `space` have the states of a search.
 //!
 //! Main items: `Variant`, `hunt`, `shrink`.
 #![tactic(auto)]
 
-pub mod change;
-pub mod deviation;
-mod drawn_moves;
-pub mod hunt_fault;
 pub mod hunts;
-mod judge_feed;
 pub mod laws;
 pub mod minimization;
-mod moves;
-mod observer;
-pub mod parallel_hunts;
-mod round;
 pub mod space;
-pub mod variant;
-pub mod variant_memory;
-pub mod variant_process;
-pub mod variant_world;
+pub mod variants;
 pub mod words;
 
 pub use crash_plans::{At, Both, CrashPlan, Never, Seeded};
-pub use hunt_fault::HuntFault;
-pub use hunts::{hunt, hunt_watched};
+pub use hunts::hunt_fault::HuntFault;
+pub use hunts::parallel_hunts::{hunt_in_parallel, hunt_in_parallel_watched};
+pub use hunts::{hunt, hunt_part, hunt_watched};
 pub use minimization::minimizer::minimize;
 pub use minimization::oracle::Oracle;
 pub use minimization::whole::{shrink, shrink_found};
-pub use parallel_hunts::{hunt_in_parallel, hunt_in_parallel_watched};
-pub use variant::Variant;
-pub use variant_memory::VariantMemory;
-pub use variant_world::VariantWorld;
+pub use variants::variant::Variant;
+pub use variants::variant_memory::VariantMemory;
+pub use variants::variant_world::VariantWorld;

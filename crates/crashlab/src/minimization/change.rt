@@ -1,7 +1,7 @@
 //! A large change of a schedule.
 
 ghost use Rattle.std.specs.Prelude.{◌≡◌};
-ghost use Rattle.crashlab.specs.MadeOf.{process_in};
+ghost use Rattle.crashlab.specs.minimization.MadeOf.{process_in};
 
 use schedule::{Count, Line};
 

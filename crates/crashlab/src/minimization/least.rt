@@ -2,7 +2,7 @@
 
 ghost use Rattle.std.specs.Prelude.{◌≡◌, ◌<◌, ◌∷◌, [], IfOk, OnOk, MatchOption, length};
 ghost use Rattle.schedule.specs.declared.lines.line.Line.{Line as LineOf};
-ghost use Rattle.crashlab.specs.Least.{IsMinimal, IsSmaller, IsLowered, IsNeeded, IsShorter, IsShrunk, Loses, with_lines_at};
+ghost use Rattle.crashlab.specs.minimization.Least.{IsMinimal, IsSmaller, IsLowered, IsNeeded, IsShorter, IsShrunk, Loses, with_lines_at};
 
 use crate::minimization::oracle::Oracle;
 use crate::minimization::replaced::with_replaced;

@@ -2,7 +2,7 @@
 
 ghost use Rattle.std.specs.Prelude.{◌≡◌, ◌<◌, ℕ, List, ◌++◌, IfSome, IsTrue};
 ghost use Rattle.schedule.specs.declared.lines.line.Line.{Line as LineOf};
-ghost use Rattle.crashlab.specs.MadeOf.{IsSubsequence, steps_by, moves_by, moves_left, moves_of, IsMadeOf};
+ghost use Rattle.crashlab.specs.minimization.MadeOf.{IsSubsequence, steps_by, moves_by, moves_left, moves_of, IsMadeOf};
 
 use crate::minimization::change::process_of;
 use rmeworld::Call;

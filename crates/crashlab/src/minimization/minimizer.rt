@@ -1,7 +1,7 @@
 //! Minimizes a schedule that goes wrong on some world.
 
 ghost use Rattle.std.specs.Prelude.{◌≡◌, IfOk, OnOk};
-ghost use Rattle.crashlab.specs.Least.{IsLike, IsShrunk};
+ghost use Rattle.crashlab.specs.minimization.Least.{IsLike, IsShrunk};
 
 use crate::minimization::large_steps::shorten;
 use crate::minimization::least::make_least;

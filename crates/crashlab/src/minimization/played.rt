@@ -3,11 +3,11 @@
 ghost use Rattle.std.specs.Prelude.{◌≡◌};
 ghost use Rattle.rmecore.specs.Refused.{number_of};
 ghost use Rattle.schedule.specs.Wholes.{header_fault};
-ghost use Rattle.crashlab.specs.Shrunk.{PlayAnswers, GoesWrong};
+ghost use Rattle.crashlab.specs.minimization.Shrunk.{PlayAnswers, GoesWrong};
 
 use crate::minimization::oracle::Oracle;
-use crate::variant::Variant;
-use crate::variant_world::VariantWorld;
+use crate::variants::variant::Variant;
+use crate::variants::variant_world::VariantWorld;
 use judge::Judge;
 use rmecore::Refusal;
 use schedule::replays::verdict::fault_number;
@@ -57,7 +57,7 @@ pub fn play(alloc: Global, variant: Variant, schedule: &Schedule) -> Result<Verd
 
 impl Oracle for VariantOracle {
     ghost use Rattle.std.specs.Prelude.{ℕ};
-    ghost use Rattle.crashlab.specs.declared.variant.Variant.{Variant as VariantOf};
+    ghost use Rattle.crashlab.specs.declared.variants.variant.Variant.{Variant as VariantOf};
 
     ghost Criterion = { VariantOf × ℕ };
 

@@ -1,7 +1,7 @@
 //! Schedules with the sizes of another.
 
 ghost use Rattle.std.specs.Prelude.{◌≡◌, ◌<◌, ◌++◌, [], IfOk, OnOk, length};
-ghost use Rattle.crashlab.specs.Least.{with_lines, with_lines_at};
+ghost use Rattle.crashlab.specs.minimization.Least.{with_lines, with_lines_at};
 
 use schedule::{Line, OutOfMemory, Schedule};
 use std::alloc::Global;

@@ -1,7 +1,7 @@
 //! The length of a schedule.
 
 ghost use Rattle.std.specs.Prelude.{◌≡◌, IfSome, IsTrue};
-ghost use Rattle.crashlab.specs.Least.{steps_asked as steps_in, IsNoLonger};
+ghost use Rattle.crashlab.specs.minimization.Least.{steps_asked as steps_in, IsNoLonger};
 
 use schedule::{Line, Schedule};
 

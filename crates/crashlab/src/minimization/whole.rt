@@ -1,12 +1,12 @@
 //! Minimizes a schedule that goes wrong on a variant.
 
 ghost use Rattle.std.specs.Prelude.{IfOk, MatchResult, Some};
-ghost use Rattle.crashlab.specs.Hunts.{IsFound};
-ghost use Rattle.crashlab.specs.Shrunk.{IsReason, Shrinks};
+ghost use Rattle.crashlab.specs.hunts.Hunts.{IsFound};
+ghost use Rattle.crashlab.specs.minimization.Shrunk.{IsReason, Shrinks};
 
 use crate::minimization::minimizer::minimize;
 use crate::minimization::played::{VariantOracle, play};
-use crate::variant::Variant;
+use crate::variants::variant::Variant;
 use schedule::replays::verdict::fault_number;
 use schedule::{OutOfMemory, ReplayFault, Schedule, Verdict};
 use std::alloc::Global;

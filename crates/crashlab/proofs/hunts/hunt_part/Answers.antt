@@ -1,7 +1,7 @@
 use Rattle.std.proofs.Common.{◌*◌, is_some, sym, ap, ◌∙◌, arith}
 use Rattle.rand_pcg.specs.Lcg.{advance}
 use Rattle.rand_pcg.specs.Pcg.{multiplier_64}
-use Rattle.crashlab.proofs.Drawn.{rounds_first, round_found, round_none, rounds_none}
+use Rattle.crashlab.proofs.hunts.Drawn.{rounds_first, round_found, round_none, rounds_none}
 use Rattle.crashlab.proofs.hunts.hunt_part.Goals as goal
 
 pub loop-init : goal.loop-init

@@ -1,5 +1,5 @@
 use Rattle.std.proofs.Common.{is_some, sym, ap, ◌∙◌, arith}
-use Rattle.crashlab.proofs.Drawn.{at_start, rounds_first, round_found, round_none, rounds_none}
+use Rattle.crashlab.proofs.hunts.Drawn.{at_start, rounds_first, round_found, round_none, rounds_none}
 use Rattle.crashlab.proofs.hunts.hunt_watched.Goals as goal
 
 pub loop-round-init : goal.loop-round-init

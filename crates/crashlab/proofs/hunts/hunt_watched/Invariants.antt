@@ -1,4 +1,4 @@
-use Rattle.crashlab.proofs.Drawn.{AreDrawn}
+use Rattle.crashlab.proofs.hunts.Drawn.{AreDrawn}
 use Rattle.crashlab.proofs.hunts.hunt_watched.Given as goal
 
 abbrev pub invariant-loop-round : goal.invariant-loop-round

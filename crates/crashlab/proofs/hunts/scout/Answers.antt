@@ -1,8 +1,8 @@
 use Rattle.std.proofs.Common.{[], ◌∷◌, ◌++◌, refl, sym, ap, subst, arith}
 use Rattle.crashlab.proofs.Common.{EndsMove, with_line, line_by}
-use Rattle.crashlab.specs.Found.{drawn_moves_of}
-use Rattle.crashlab.specs.Hunted.{outcome_of_round}
-use Rattle.crashlab.proofs.Drawn.{drawn_first, drawn_refused, drawn_on, drawn_caught, drawn_all}
+use Rattle.crashlab.specs.hunts.Found.{drawn_moves_of}
+use Rattle.crashlab.specs.hunts.Hunted.{outcome_of_round}
+use Rattle.crashlab.proofs.hunts.Drawn.{drawn_first, drawn_refused, drawn_on, drawn_caught, drawn_all}
 use Rattle.crashlab.proofs.hunts.scout.Goals as goal
 
 pub loop-init : goal.loop-init

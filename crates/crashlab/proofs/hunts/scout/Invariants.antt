@@ -1,6 +1,6 @@
 use Rattle.std.proofs.Common.{List}
-use Rattle.crashlab.specs.declared.moves.DrawnMove.{DrawnMove}
-use Rattle.crashlab.proofs.Drawn.{IsDrawn, drawn_round}
+use Rattle.crashlab.specs.declared.hunts.moves.DrawnMove.{DrawnMove}
+use Rattle.crashlab.proofs.hunts.Drawn.{IsDrawn, drawn_round}
 use Rattle.crashlab.proofs.hunts.scout.Given as goal
 
 abbrev pub invariant-loop : goal.invariant-loop

@@ -1,4 +1,4 @@
-use Rattle.crashlab.proofs.Choices.{right_process_states, right_deeds}
+use Rattle.crashlab.proofs.variants.Choices.{right_process_states, right_deeds}
 use Rattle.crashlab.proofs.laws.right_changes_nothing.Goals as goal
 
 pub returns-clause-process_states : goal.returns-clause-process_states

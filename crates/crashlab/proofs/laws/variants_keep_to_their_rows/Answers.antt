@@ -1,5 +1,5 @@
-use Rattle.crashlab.proofs.VariantRuns.{a_rest, a_start, a_step, a_deed, an_answer, a_done, a_crash}
-use Rattle.crashlab.proofs.Choices.{a_choice}
+use Rattle.crashlab.proofs.variants.VariantRuns.{a_rest, a_start, a_step, a_deed, an_answer, a_done, a_crash}
+use Rattle.crashlab.proofs.variants.Choices.{a_choice}
 use Rattle.crashlab.proofs.laws.variants_keep_to_their_rows.Goals as goal
 
 pub returns-clause-rest : goal.returns-clause-rest

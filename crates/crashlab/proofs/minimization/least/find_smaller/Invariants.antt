@@ -1,5 +1,5 @@
 use Rattle.std.proofs.Common.{◌≡◌, ℕ, ◌<◌}
-use Rattle.crashlab.specs.Least.{IsNeeded}
+use Rattle.crashlab.specs.minimization.Least.{IsNeeded}
 use Rattle.crashlab.proofs.minimization.least.find_smaller.Given as goal
 
 abbrev pub invariant-loop-at : goal.invariant-loop-at

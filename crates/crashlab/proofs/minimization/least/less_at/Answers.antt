@@ -1,7 +1,7 @@
 use Rattle.std.proofs.Common.{◌∷◌, [], IfOk, MatchOption, subst, sym}
-use Rattle.crashlab.specs.Least.{IsSmaller, IsLowered, Loses, with_lines_at}
-use Rattle.crashlab.proofs.Sizes.{without_line, with_lowered}
-use Rattle.crashlab.proofs.Needed.{needed_after, needed_whole}
+use Rattle.crashlab.specs.minimization.Least.{IsSmaller, IsLowered, Loses, with_lines_at}
+use Rattle.crashlab.proofs.minimization.Sizes.{without_line, with_lowered}
+use Rattle.crashlab.proofs.minimization.Needed.{needed_after, needed_whole}
 use Rattle.crashlab.proofs.minimization.least.less_at.Goals as goal
 
 pub try_lines-requires-clause-shorter : goal.try_lines-requires-clause-shorter

@@ -1,6 +1,6 @@
 use Rattle.std.proofs.Common.{refl, ◌∙◌, subst}
-use Rattle.crashlab.specs.Least.{IsSmaller}
-use Rattle.crashlab.proofs.Shrunk.{like_self, like_less}
+use Rattle.crashlab.specs.minimization.Least.{IsSmaller}
+use Rattle.crashlab.proofs.minimization.Shrunk.{like_self, like_less}
 use Rattle.crashlab.proofs.minimization.least.make_least.Goals as goal
 
 pub loop-now-init : goal.loop-now-init

@@ -1,5 +1,5 @@
 use Rattle.std.proofs.Common.{◌≡◌}
-use Rattle.crashlab.specs.Least.{IsLike, size}
+use Rattle.crashlab.specs.minimization.Least.{IsLike, size}
 use Rattle.crashlab.proofs.minimization.least.make_least.Given as goal
 
 abbrev pub invariant-loop-now : goal.invariant-loop-now

@@ -1,7 +1,7 @@
 use Rattle.std.proofs.Common.{◌≡◌, ◌+◌, [], ◌∷◌, ◌++◌, take, sym, ap, ◌∙◌, subst, arith}
-use Rattle.crashlab.specs.MadeOf.{IsSubsequence, moves_by, moves_of}
+use Rattle.crashlab.specs.minimization.MadeOf.{IsSubsequence, moves_by, moves_of}
 use Rattle.std.proofs.lemmas.List.{append-nil, take_all, take_more}
-use Rattle.crashlab.proofs.MadeOf.{taken_line}
+use Rattle.crashlab.proofs.minimization.MadeOf.{taken_line}
 use Rattle.crashlab.proofs.minimization.made_of.are_moves_of.Goals as goal
 
 pub loop-line-preserved : goal.loop-line-preserved

@@ -1,5 +1,5 @@
 use Rattle.std.proofs.Common.{ℕ, ◌<◌}
-use Rattle.crashlab.specs.MadeOf.{IsSubsequence, moves_of}
+use Rattle.crashlab.specs.minimization.MadeOf.{IsSubsequence, moves_of}
 use Rattle.crashlab.proofs.minimization.made_of.is_made_of.Given as goal
 
 -- it holds of the processes so far

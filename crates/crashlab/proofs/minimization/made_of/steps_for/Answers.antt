@@ -1,5 +1,5 @@
-use Rattle.crashlab.specs.MadeOf.{moves_by}
-use Rattle.crashlab.proofs.MadeOf.{sub_skip}
+use Rattle.crashlab.specs.minimization.MadeOf.{moves_by}
+use Rattle.crashlab.proofs.minimization.MadeOf.{sub_skip}
 use Rattle.crashlab.proofs.minimization.made_of.steps_for.Goals as goal
 
 pub returns-in_default : goal.returns-in_default

@@ -1,6 +1,6 @@
 use Rattle.std.proofs.Common.{◌++◌}
-use Rattle.crashlab.specs.MadeOf.{steps_by, moves_by, moves_of}
-use Rattle.crashlab.proofs.MadeOf.{sub_skip}
+use Rattle.crashlab.specs.minimization.MadeOf.{steps_by, moves_by, moves_of}
+use Rattle.crashlab.proofs.minimization.MadeOf.{sub_skip}
 use Rattle.crashlab.proofs.minimization.made_of.take.Goals as goal
 
 pub returns : goal.returns

@@ -1,7 +1,7 @@
 use Rattle.std.proofs.Common.{◌≡◌, ◌∷◌, ◌++◌, sym, subst}
 use Rattle.schedule.specs.declared.lines.line.Line.{Line}
-use Rattle.crashlab.specs.MadeOf.{IsSubsequence, moves_by, moves_of}
-use Rattle.crashlab.proofs.MadeOf.{sub_front, sub_skip}
+use Rattle.crashlab.specs.minimization.MadeOf.{IsSubsequence, moves_by, moves_of}
+use Rattle.crashlab.proofs.minimization.MadeOf.{sub_front, sub_skip}
 use Rattle.crashlab.proofs.minimization.made_of.take_line.Goals as goal
 
 pub returns-then-is_same_move : goal.returns-then-is_same_move

@@ -1,6 +1,6 @@
 use Rattle.std.proofs.Common.{List, length}
 use Rattle.schedule.specs.declared.lines.line.Line.{Line}
-use Rattle.crashlab.specs.MadeOf.{IsSubsequence, moves_of}
+use Rattle.crashlab.specs.minimization.MadeOf.{IsSubsequence, moves_of}
 use Rattle.crashlab.proofs.minimization.made_of.take_line.Given as goal
 
 -- the moves after the lines so far are moves of all lines

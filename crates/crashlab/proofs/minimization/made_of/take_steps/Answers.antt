@@ -1,6 +1,6 @@
 use Rattle.std.proofs.Common.{◌≡◌, ◌∷◌, ◌++◌, sym, subst, arith}
-use Rattle.crashlab.specs.MadeOf.{IsSubsequence, steps_by, moves_left}
-use Rattle.crashlab.proofs.MadeOf.{taken_all, taken_some}
+use Rattle.crashlab.specs.minimization.MadeOf.{IsSubsequence, steps_by, moves_left}
+use Rattle.crashlab.proofs.minimization.MadeOf.{taken_all, taken_some}
 use Rattle.crashlab.proofs.minimization.made_of.take_steps.Goals as goal
 
 pub loop-steps-preserved : goal.loop-steps-preserved

@@ -1,6 +1,6 @@
 use Rattle.std.proofs.Common.{List, ◌++◌, length}
 use Rattle.schedule.specs.declared.lines.line.Line.{Line}
-use Rattle.crashlab.specs.MadeOf.{IsSubsequence, steps_by, moves_left}
+use Rattle.crashlab.specs.minimization.MadeOf.{IsSubsequence, steps_by, moves_left}
 use Rattle.crashlab.proofs.minimization.made_of.take_steps.Given as goal
 
 -- what has the steps that are still to take has all of them

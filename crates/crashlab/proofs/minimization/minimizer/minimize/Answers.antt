@@ -1,6 +1,6 @@
 use Rattle.std.proofs.Common.{IfOk, subst, sym}
-use Rattle.crashlab.specs.Least.{IsShrunk}
-use Rattle.crashlab.proofs.Shrunk.{shrunk_on}
+use Rattle.crashlab.specs.minimization.Least.{IsShrunk}
+use Rattle.crashlab.proofs.minimization.Shrunk.{shrunk_on}
 use Rattle.crashlab.proofs.minimization.minimizer.minimize.Goals as goal
 
 pub make_least-requires : goal.make_least-requires

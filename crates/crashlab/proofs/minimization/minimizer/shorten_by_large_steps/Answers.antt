@@ -1,4 +1,4 @@
-use Rattle.crashlab.proofs.Shrunk.{like_copied}
+use Rattle.crashlab.proofs.minimization.Shrunk.{like_copied}
 use Rattle.crashlab.proofs.minimization.minimizer.shorten_by_large_steps.Goals as goal
 
 pub returns-clause-like : goal.returns-clause-like

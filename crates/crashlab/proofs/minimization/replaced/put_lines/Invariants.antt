@@ -1,5 +1,5 @@
 use Rattle.std.proofs.Common.{◌≡◌, ◌++◌, take}
-use Rattle.crashlab.specs.Least.{with_lines}
+use Rattle.crashlab.specs.minimization.Least.{with_lines}
 use Rattle.crashlab.proofs.minimization.replaced.put_lines.Given as goal
 
 abbrev pub invariant-loop-line : goal.invariant-loop-line

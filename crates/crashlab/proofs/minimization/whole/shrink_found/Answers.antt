@@ -1,7 +1,7 @@
 use Rattle.std.proofs.Common.{sym}
 use Rattle.schedule.specs.Verdicts.{number_of_fault}
-use Rattle.crashlab.proofs.Found.{found_wrong}
-use Rattle.crashlab.proofs.Needed.{not_fine}
+use Rattle.crashlab.proofs.hunts.Found.{found_wrong}
+use Rattle.crashlab.proofs.minimization.Needed.{not_fine}
 use Rattle.crashlab.proofs.minimization.whole.shrink_found.Goals as goal
 
 pub unreachable-requires : goal.unreachable-requires

@@ -1,0 +1,6 @@
+pub mod Lines
+pub mod Drawn
+pub mod Shares
+pub mod Observed
+pub mod Answered
+pub mod Found

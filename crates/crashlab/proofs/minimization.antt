@@ -1,0 +1,4 @@
+pub mod MadeOf
+pub mod Sizes
+pub mod Shrunk
+pub mod Needed

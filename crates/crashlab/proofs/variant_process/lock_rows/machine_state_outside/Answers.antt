@@ -1,4 +1,0 @@
-use Rattle.crashlab.proofs.variant_process.lock_rows.machine_state_outside.Goals as goal
-
-pub returns : goal.returns
-returns c = c.seam_set.ensures.set (c.seam_set.ensures.held.1 tt)

@@ -1,0 +1,12 @@
+pub mod Configurations
+pub mod Rests
+pub mod Steady
+pub mod Rows
+pub mod Waits
+pub mod Deviations
+pub mod Repairs
+pub mod Skips
+pub mod VariantRuns
+pub mod Choices
+pub mod LockWorlds
+pub mod Scans

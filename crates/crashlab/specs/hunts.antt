@@ -1,0 +1,5 @@
+pub mod Hunts
+pub mod Found
+pub mod Draws
+pub mod Observed
+pub mod Hunted

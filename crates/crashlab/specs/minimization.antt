@@ -1,0 +1,3 @@
+pub mod MadeOf
+pub mod Least
+pub mod Shrunk

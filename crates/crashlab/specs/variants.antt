@@ -1,0 +1,9 @@
+pub mod Variants
+pub mod VariantScripts
+pub mod VariantProcessStates
+pub mod VariantStands
+pub mod VariantWorlds
+pub mod VariantSeams
+pub mod VariantRuns
+pub mod LockWorlds
+pub mod JudgeFeeds

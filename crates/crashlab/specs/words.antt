@@ -1,0 +1,2 @@
+pub mod JobWords
+pub mod MachineStateWords

@@ -2,7 +2,7 @@
 use Rattle.std.proofs.Common.{◌≡◌, ℕ, zero, suc, ◌+◌, ◌-◌, Bool, true, false, if◌then◌else◌, List, [], ◌∷◌, ◌++◌, map, length, slice_get, slice_set, Option, Some, None, Result, Ok, Err, ok_or, refl, sym, ap, ◌∙◌, append_assoc}
 use Rattle.std.specs.List.{flat_map}
 use Rattle.diagram.proofs.Common.{append-nil, flat_map-append, flat_map-cons, Line}
-use Rattle.algorithms.specs.Accesses.{access_of, passes, names_after_read}
+use Rattle.algorithms.specs.Accesses.{access_of, access_after_read, passes, names_after_read}
 use Rattle.algorithms.specs.Arrivals.{Arrival, arrives, ◌>>=◌}
 use Rattle.algorithms.specs.LocalRuns.{nothing_noted}
 use Rattle.algorithms.specs.Steps.{step_before_access, advance_of, goes_on, move_of_arrival, stays, value_of}
@@ -83,18 +83,27 @@ moved_if a c at store again goes = if goes then goes_on a c (at + 1) again else 
 abbrev take_goes : Algorithm → Constants → ℕ → List ℕ → List ℕ → WordAccess → ℕ → Bool → Result Taken AlgorithmRefusal
 take_goes a c at store again access value goes = moved_if a c at store again goes >>= take_move at access value
 
+abbrev take_made : Algorithm → Constants → ℕ → AccessLine → List ℕ → ℕ → WordAccess → Result Taken AlgorithmRefusal
+take_made a c at line store value made =
+    ok_or (passes c (names_after_read line.action value store) line.action) (OutOfRange at) >>= take_goes a c at store (names_after_read line.action value store) made value
+
 abbrev take_value : Algorithm → Constants → ℕ → AccessLine → List ℕ → WordAccess → ℕ → Result Taken AlgorithmRefusal
 take_value a c at line store access value =
-    ok_or (passes c (names_after_read line.action value store) line.action) (OutOfRange at) >>= take_goes a c at store (names_after_read line.action value store) access value
+    ok_or (access_after_read a.declarations.items c (names_after_read line.action value store) line.action access) (OutOfRange at) >>= take_made a c at line store value
 
 abbrev take_access : Algorithm → Constants → List (List ℕ) → ℕ → AccessLine → List ℕ → WordAccess → Result Taken AlgorithmRefusal
 take_access a c words at line store access = ok_or (value_of words access) (Malformed at) >>= take_value a c at line store access
 
+made_quiet : (a : Algorithm) (c : Constants) (at : ℕ) (line : AccessLine) (store : List ℕ) (value : ℕ) (made : WordAccess) → Holds TakesQuiet (take_made a c at line store value made)
+made_quiet a c at line store value made =
+    let again : List ℕ = names_after_read line.action value store in
+    holds_after TakesQuiet (ok_or (passes c again line.action) (OutOfRange at)) (take_goes a c at store again made value)
+    (λ goes. holds_then IsQuiet TakesQuiet (moved_if a c at store again goes) (take_move at made value) (moves_quiet goes a c at store again) (λ moved quiet. quiet))
+
 value_quiet : (a : Algorithm) (c : Constants) (at : ℕ) (line : AccessLine) (store : List ℕ) (access : WordAccess) (value : ℕ) → Holds TakesQuiet (take_value a c at line store access value)
 value_quiet a c at line store access value =
-    let again : List ℕ = names_after_read line.action value store in
-    holds_after TakesQuiet (ok_or (passes c again line.action) (OutOfRange at)) (take_goes a c at store again access value)
-    (λ goes. holds_then IsQuiet TakesQuiet (moved_if a c at store again goes) (take_move at access value) (moves_quiet goes a c at store again) (λ moved quiet. quiet))
+    holds_after TakesQuiet (ok_or (access_after_read a.declarations.items c (names_after_read line.action value store) line.action access) (OutOfRange at)) (take_made a c at line store value)
+    (made_quiet a c at line store value)
 
 acted_quiet : (a : Algorithm) (c : Constants) (words : List (List ℕ)) (at : ℕ) (line : AccessLine) (store : List ℕ) → Holds TakesQuiet (step_before_access a c words at line store)
 acted_quiet a c words at line store =
@@ -136,7 +145,7 @@ said_quiet m p (Ok s) is = quiet_of (step_of_process m.world p) (after_step m.wo
 said_quiet m p (Err e) is = λ blocked. absurd (let no : false ≡ true = blocked in cc)
 
 silent_if : (p : ℕ) (step : MonitorStep) (blocked : Bool) → (blocked ≡ true → (step.advanced.noted ≡ nothing_noted) × (step.advanced.answer ≡ None))
-    → IsSilent (if blocked then Blocked step.advanced.access.address step.advanced.value 1 else Took step.advanced.access step.advanced.value) (event_reports (events.Took p step))
+    → IsSilent (if blocked then Blocked step.advanced.access step.advanced.value 1 else Took step.advanced.access step.advanced.value) (event_reports (events.Took p step))
 silent_if p step false says = tt
 silent_if p step true says = rw ((says refl).0, (says refl).1) refl
 

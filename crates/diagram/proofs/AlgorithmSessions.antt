@@ -1,8 +1,7 @@
 -- The steps of an algorithm that a session writes.
-use Rattle.std.proofs.Common.{◌≡◌, ℕ, ◌+◌, false, List, [], ◌∷◌, ◌++◌, map, Option, Some, None, Err, refl, sym, ap, ◌∙◌, append_assoc}
-use Rattle.std.specs.List.{flat_map}
-use Rattle.diagram.proofs.AlgorithmRowEffects.{takes_line}
-use Rattle.diagram.proofs.Common.{append-nil, flat_map-cons, flat_map-append, Line, Step}
+use Rattle.std.proofs.Common.{◌≡◌, ℕ, ◌+◌, List, [], ◌∷◌, ◌++◌, Option, Some, None, Err, refl, sym, ap, ◌∙◌}
+use Rattle.diagram.proofs.AlgorithmEventLists.{hears_line}
+use Rattle.diagram.proofs.Common.{append-nil, flat_map-append, Line, Step}
 use Rattle.diagram.proofs.RunEvents.{reports_go_on}
 use Rattle.rmecore.specs.declared.phase.Phase.{Phase}
 use Rattle.algorithms.specs.Worlds.{AlgorithmWorldState}
@@ -11,7 +10,6 @@ use Rattle.algorithms.specs.declared.process.AlgorithmProcess.{AlgorithmProcess}
 use Rattle.algorithm_lab.proofs.Restarts.{line_leaves, run_leaves}
 use Rattle.algorithm_lab.specs.Monitors.{MonitorState, first_monitor, monitor_at_beginning}
 use Rattle.algorithm_lab.specs.Refusals.{number_of}
-use Rattle.algorithm_lab.specs.Reports.{line_of_report, reports_text}
 use Rattle.algorithm_lab.specs.Runs.{AlgorithmRun, event_reports, line_on, monitor_transitions, run_on}
 use Rattle.algorithm_lab.specs.declared.run_refusal.RunRefusal.{RunRefusal}
 use Rattle.algorithm_lab.specs.declared.run_report.TextReport.{TextReport}
@@ -23,12 +21,10 @@ use Rattle.schedule.specs.declared.player.play_stop.PlayStop.TheVariants.{Refuse
 use Rattle.schedule.specs.declared.texts.fault.OutOfMemory.{OutOfMemory}
 use Rattle.schedule.specs.Schedules.{Scheduled}
 use Rattle.schedule.specs.declared.texts.head.Head.{Head}
-use Rattle.diagram.specs.declared.algorithm.row.AlgorithmRow.{AlgorithmRow}
-use Rattle.diagram.specs.declared.algorithm.row_collector.AlgorithmRows.{AlgorithmRows}
-use Rattle.diagram.specs.AlgorithmRowEffects.{algorithm_row_effects}
+use Rattle.diagram.specs.declared.algorithm.event_list.EventList.{EventList}
+use Rattle.diagram.specs.AlgorithmEventEffects.{event_list_effects}
 use Rattle.diagram.specs.AlgorithmEvents.{AlgorithmEvent, drawn_events, events_of, events_on}
-use Rattle.diagram.specs.AlgorithmRows.{further_row, rows_of}
-use Rattle.diagram.specs.AlgorithmSimulations.{HasNumber, algorithm_semantics, event_line, event_text, events_text, left_by, number_by, row_line, rows_lines, text_by}
+use Rattle.diagram.specs.AlgorithmSimulations.{HasNumber, algorithm_semantics, event_text, events_text, kept_lines, left_by, number_by, text_by}
 use Rattle.diagram.specs.Semantics.{lines_on, state_after_steps}
 use Rattle.diagram.specs.Sessions.{at_schedule, lines_text}
 
@@ -51,34 +47,6 @@ went_back m left now words processes phases world heard w q f same =
     ∙ ap (λ (x : List AlgorithmProcess). record { world = record left.world { words = m.world.words; processes = x }; phases = m.phases }) q
     ∙ ap (λ (x : MonitorState). record { world = record x.world { words = m.world.words; processes = m.world.processes }; phases = m.phases }) same
 
--- ---- the text of rows
-
-further_lines : (a : Algorithm) (p : ℕ) (reports : List TextReport) → rows_lines a (map (further_row p) reports) ≡ reports_text a reports
-further_lines a p [] = refl
-further_lines a p (t ∷ ts) =
-    flat_map-cons (row_line a) (further_row p t) (map (further_row p) ts) ∙ ap (λ (text : List ℕ). reports_text a (t ∷ []) ++ text) (further_lines a p ts) ∙ sym (flat_map-append (line_of_report a) (t ∷ []) ts)
-
-event_lines : (a : Algorithm) (e : AlgorithmEvent) → rows_lines a (rows_of e) ≡ event_text a e
-event_lines a e = by e.reports
-  where
-    place : List ℕ
-    place = event_line a e.p e.act e.phase
-
-    first : Option TextReport → AlgorithmRow
-    first reports = record { p = e.p; act = e.act; phase = Some e.phase; reports = reports }
-
-    by : (reports : List TextReport) → rows_lines a (rows_of (record { p = e.p; act = e.act; phase = e.phase; reports = reports })) ≡ place ++ reports_text a reports
-    by [] = flat_map-cons (row_line a) (first None) [] ∙ append-nil (place ++ [])
-    by (t ∷ ts) =
-        flat_map-cons (row_line a) (first (Some t)) (map (further_row e.p) ts) ∙ ap (λ (text : List ℕ). (place ++ reports_text a (t ∷ [])) ++ text) (further_lines a e.p ts)
-        ∙ append_assoc place (reports_text a (t ∷ [])) (reports_text a ts) ∙ ap (λ (text : List ℕ). place ++ text) (sym (flat_map-append (line_of_report a) (t ∷ []) ts))
-
-pub lines_of_rows : (a : Algorithm) (events : List AlgorithmEvent) → rows_lines a (flat_map rows_of events) ≡ events_text a events
-lines_of_rows a [] = refl
-lines_of_rows a (e ∷ es) =
-    ap (rows_lines a) (flat_map-cons rows_of e es) ∙ flat_map-append (row_line a) (rows_of e) (flat_map rows_of es)
-    ∙ ap (λ (text : List ℕ). text ++ rows_lines a (flat_map rows_of es)) (event_lines a e) ∙ ap (λ (text : List ℕ). event_text a e ++ text) (lines_of_rows a es) ∙ sym (flat_map-cons (event_text a) e es)
-
 -- ---- a simulation
 
 -- steps that are taken leave what a line of them leaves
@@ -87,15 +55,14 @@ unfolding state_after_steps
 steps_begin m left p n is = ap monitor_at_beginning (is ∙ sym (ap (λ (part : List TextReport × MonitorState). part.1) (steps_reported monitor_transitions event_reports p n m))) ∙ line_leaves m (Step p n)
 
 -- a line that is not refused
-pub accepted_line : (first now : AlgorithmRows) (m left : MonitorState) (line : Line) (a : Algorithm) (old new : List ℕ) → PlaysAll algorithm_row_effects first now (line_by monitor_transitions itself m line) left None
-    → first.counts ≡ false → first.rows.items ≡ [] → a ≡ left.world.algorithm → new ≡ old ++ rows_lines a now.rows.items
+pub accepted_line : (first now : EventList) (m left : MonitorState) (line : Line) (a : Algorithm) (old new : List ℕ) → PlaysAll event_list_effects first now (line_by monitor_transitions itself m line) left None
+    → first.events.items ≡ [] → a ≡ left.world.algorithm → new ≡ old ++ kept_lines a now.events.items
     → (None ≡ number_by (line_on m line).refused) × (new ≡ old ++ text_by m.world.algorithm (events_of m line) (line_on m line).refused) × (left ≡ left_by m (line_on m line) (line_on m line).refused)
-accepted_line first now m left line a old new plays counts none of wrote =
-    let is = takes_line first now m line left None plays counts in
-    let page : rows_lines a now.rows.items ≡ events_text m.world.algorithm (events_of m line) =
-    ap (rows_lines a) (is.2 ∙ ap (λ (rows : List AlgorithmRow). rows ++ flat_map rows_of (events_of m line)) none) ∙ lines_of_rows a (events_of m line)
-    ∙ ap (λ (x : Algorithm). events_text x (events_of m line)) (of ∙ same_algorithm left m (ap monitor_at_beginning is.0 ∙ line_leaves m line)) in
-    rw is.1 (refl, wrote ∙ ap (λ (t : List ℕ). old ++ t) page, is.0)
+accepted_line first now m left line a old new plays none of wrote =
+    let is = hears_line a first now m line left None plays none in
+    let page : kept_lines a now.events.items ≡ events_text m.world.algorithm (events_of m line) =
+    is.lines ∙ ap (λ (x : Algorithm). events_text x (events_of m line)) (of ∙ same_algorithm left m (ap monitor_at_beginning is.stands ∙ line_leaves m line)) in
+    rw is.refused_is (refl, wrote ∙ ap (λ (t : List ℕ). old ++ t) page, is.stands)
 
 -- a line that is refused by this number
 pub record IsRefusedBy (m left : MonitorState) (line : Line) (number : ℕ) : Type 0 where
@@ -104,12 +71,12 @@ pub record IsRefusedBy (m left : MonitorState) (line : Line) (number : ℕ) : Ty
   pub number_is : number_of refusal ≡ Some number
   pub begins : monitor_at_beginning left ≡ monitor_at_beginning m
 
-pub refused_by : (first now : AlgorithmRows) (m left : MonitorState) (line : Line) (stop : PlayStop RunRefusal OutOfMemory) (number : ℕ) → Plays {A = Unit {0}} monitor_transitions algorithm_row_effects first now (line_by monitor_transitions itself m line) left (Err stop)
-    → first.counts ≡ false → HasNumber stop number → IsRefusedBy m left line number
-refused_by first now m left line (Refused refusal) number plays counts has =
-    let is = takes_line first now m line left (Some refusal) plays.0 counts in
-    record { refusal = refusal; refused = is.1; number_is = has; begins = ap monitor_at_beginning is.0 ∙ line_leaves m line }
-refused_by first now m left line stop number plays counts has = absurd has
+pub refused_by : (first now : EventList) (m left : MonitorState) (line : Line) (stop : PlayStop RunRefusal OutOfMemory) (number : ℕ) → Plays {A = Unit {0}} monitor_transitions event_list_effects first now (line_by monitor_transitions itself m line) left (Err stop)
+    → first.events.items ≡ [] → HasNumber stop number → IsRefusedBy m left line number
+refused_by first now m left line (Refused refusal) number plays none has =
+    let is = hears_line m.world.algorithm first now m line left (Some refusal) plays.0 none in
+    record { refusal = refusal; refused = is.refused_is; number_is = has; begins = ap monitor_at_beginning is.stands ∙ line_leaves m line }
+refused_by first now m left line stop number plays none has = absurd has
 
 pub refused_line : (m left back : MonitorState) (line : Line) (number : ℕ) (old : List ℕ) → IsRefusedBy m left line number → back ≡ m
     → (Some number ≡ number_by (line_on m line).refused) × (old ≡ old ++ text_by m.world.algorithm (events_of m line) (line_on m line).refused) × (back ≡ left_by m (line_on m line) (line_on m line).refused)

@@ -17,6 +17,9 @@ pub mod Watching
 pub mod Undone
 pub mod LinesReported
 pub mod AlgorithmRowEffects
+pub mod AlgorithmEventLists
 pub mod AlgorithmDrawn
 pub mod AlgorithmSessions
 pub mod AlgorithmReported
+pub mod AlgorithmSteps
+pub mod AlgorithmPages

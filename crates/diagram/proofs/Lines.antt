@@ -9,7 +9,7 @@ use Rattle.schedule.specs.declared.texts.head.Head.{Head}
 use Rattle.schedule.specs.declared.replays.replay_fault.ReplayFault.TheVariants as faults
 use Rattle.diagram.proofs.NotEmpty.{cons_some}
 use Rattle.diagram.proofs.Steps.{rows_both}
-use Rattle.diagram.specs.StepLines.{EndingLines, FollowsAsLines, PlayedState, StepObject, all_lines, against_text, fault_text, first_lines, format_line, last_lines, object_line, object_of, object_lines, objects_of, objects_on, place_text, played_with, played_after, step_lines, verdict_object}
+use Rattle.diagram.specs.StepLines.{EndingLines, FollowsAsLines, PlayedState, StepObject, all_lines, against_text, fault_text, first_lines, format_line, last_lines, object_line, object_of, object_lines, objects_of, objects_on, step_place, played_with, played_after, step_lines, verdict_object}
 
 -- a text and one byte more, after what was there: without that byte it is what was there and the text
 pub unended : (old mid new text : List ℕ) (last : ℕ) → mid ≡ old ++ (text ++ last ∷ []) → ((front : List ℕ) (x : ℕ) → mid ≡ front ++ x ∷ [] → new ≡ front) → new ≡ old ++ text
@@ -18,7 +18,7 @@ unended old mid new text last is cut = cut (old ++ text) last (is ∙ sym (appen
 -- ---- lines that are not empty
 
 pub line_some : (l : Layout) (object : StepObject) → object_line l object ≡ [] → ⊥
-unfolding object_line place_text
+unfolding object_line step_place
 line_some l object e = cons_some _ _ e
 
 pub first_some : (image : Image) → first_lines image ≡ [] → ⊥

@@ -12,7 +12,7 @@ use Rattle.rmecore.specs.declared.word.Word.TheVariants.{Choosing, Number, Insid
 use Rattle.redomail.specs.declared.deed.Deed.{Deed}
 use Rattle.rmeworld.specs.declared.answer.Answer.{Answer}
 use Rattle.rmeworld.specs.declared.stepped.Stepped.{Stepped}
-use Rattle.diagram.proofs.Common.{append-nil, replicate, Happened, RowAct, DiagramRow, DiagramEvent, Took, Fell, events_in, events_shown, row_of, silent_step}
+use Rattle.diagram.proofs.Common.{append-nil, Happened, RowAct, DiagramRow, DiagramEvent, Took, Fell, events_in, events_shown, row_of, silent_step}
 use Rattle.diagram.specs.declared.act.RowAct.TheVariants as acts
 use Rattle.diagram.specs.Followed.{act_of_step}
 use Rattle.diagram.specs.Repetitions.{wait_alike, is_same_word, is_bare, repeats, last_of, counted_by, counted_last, with_counted, with_row, with_events}

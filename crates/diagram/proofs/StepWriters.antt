@@ -1,5 +1,5 @@
 -- The steps of a line are written, one after another.
-use Rattle.std.proofs.Common.{◌≡◌, ℕ, List, [], ◌∷◌, ◌++◌, Option, Some, None, Result, Ok, Err, IfOk, IfSome, ◌⊎◌, inl, inr, refl, sym, ap, ◌∙◌}
+use Rattle.std.proofs.Common.{◌≡◌, ℕ, List, [], ◌∷◌, ◌++◌, Option, Some, None, Result, Ok, Err, IfSome, inl, inr, refl, sym, ap, ◌∙◌}
 use Rattle.rmecore.specs.Refused.{number_of}
 use Rattle.redomail.specs.declared.layout.Layout.{Layout}
 use Rattle.schedule.specs.declared.player.play_stop.PlayStop.{PlayStop}
@@ -9,7 +9,7 @@ use Rattle.schedule.specs.Effects.{HearsAll, BreaksOffAt}
 use Rattle.schedule.specs.Fragments.{itself, line_on as line_by}
 use Rattle.schedule.specs.Plays.{Plays}
 use Rattle.schedule.specs.Transitions.{IsLoud}
-use Rattle.diagram.proofs.Common.{append-nil, Behaviour, Refusal, Line, line_on, transitions_of, DiagramEvent, events_of, run_text}
+use Rattle.diagram.proofs.Common.{append-nil, Behaviour, Refusal, Line, transitions_of, DiagramEvent, events_of, run_text}
 use Rattle.diagram.proofs.RowCollections.{some_event}
 use Rattle.diagram.proofs.RunEvents.{line_refused, same_left, same_refused}
 use Rattle.diagram.proofs.Seen.{seen_event}

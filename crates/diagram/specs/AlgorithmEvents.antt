@@ -28,7 +28,7 @@ pub record AlgorithmEvent : Type 0 where
 
 -- a step, as it is drawn
 abbrev pub act_of : Advanced → AlgorithmAct
-act_of a = if a.blocked then Blocked a.access.address a.value 1 else Took a.access a.value
+act_of a = if a.blocked then Blocked a.access a.value 1 else Took a.access a.value
 
 -- the phase of a process by the deeds of it that are heard. One that has died inside is dead until it enters again
 abbrev pub lifeline_phase : Phase → LifelinePhase

@@ -1,24 +1,17 @@
 -- What an event of an algorithm's run does to the rows that hear it.
-use Rattle.std.specs.Prelude.{◌≡◌, Bool, true, false, List, ◌++◌}
+use Rattle.std.specs.Prelude.{◌≡◌, ◌++◌}
 use Rattle.schedule.specs.declared.texts.fault.OutOfMemory.{OutOfMemory}
 use Rattle.schedule.specs.Effects.{Effects}
 use Rattle.schedule.specs.Transitions.{RunEvent}
 use Rattle.algorithm_lab.specs.declared.monitor_event.MonitorCrash.{MonitorCrash}
 use Rattle.algorithm_lab.specs.declared.monitor_event.MonitorStep.{MonitorStep}
-use Rattle.diagram.specs.declared.algorithm.row.AlgorithmRow.{AlgorithmRow}
 use Rattle.diagram.specs.declared.algorithm.row_collector.AlgorithmRows.{AlgorithmRows}
 use Rattle.diagram.specs.AlgorithmEvents.{AlgorithmEvent, drawn_event}
-use Rattle.diagram.specs.AlgorithmRows.{rows_of, with_event}
-
--- the rows after an event. Where repetitions do not count it has rows of its own
-abbrev pub rows_after : Bool → List AlgorithmRow → AlgorithmEvent → List AlgorithmRow
-rows_after true rows event = with_event rows event
-rows_after false rows event = rows ++ rows_of event
+use Rattle.diagram.specs.AlgorithmRows.{with_event}
 
 -- the rows of an event are added, and what it reports
 pub record TakesEvent (before : AlgorithmRows) (event : AlgorithmEvent) (now : AlgorithmRows) : Type 0 where
-  pub counts : now.counts ≡ before.counts
-  pub rows : now.rows.items ≡ rows_after before.counts before.rows.items event
+  pub rows : now.rows.items ≡ with_event before.rows.items event
   pub reports : now.reports.items ≡ before.reports.items ++ event.reports
 
 -- where the rows stop there is no memory for one more

@@ -41,9 +41,9 @@ is_same_word a b = a.declaration == b.declaration && a.index == b.index
 
 -- a blocked reading counts once more where the row before is the same reading of the same process
 abbrev pub counted_by : ℕ → AlgorithmRow → AlgorithmAct → AlgorithmAct → Option AlgorithmRow
-counted_by p row (Blocked word value times) (Blocked again read once) =
-    if p == row.p && is_same_word again word && read == value && nat_lt times (2 ^ 64 - 1)
-    then Some (record { p = row.p; act = Blocked word value (times + 1); phase = row.phase; reports = row.reports })
+counted_by p row (Blocked access value times) (Blocked again read once) =
+    if p == row.p && is_same_word again.address access.address && read == value && nat_lt times (2 ^ 64 - 1)
+    then Some (record { p = row.p; act = Blocked access value (times + 1); phase = row.phase; reports = row.reports })
     else None
 counted_by p row before now = None
 
@@ -79,26 +79,36 @@ word_sign a address = word_of (slice_get a.declarations.items address.declaratio
 abbrev pub load_sign : Algorithm → Address → ℕ → List ℕ
 load_sign a address value = codes "r " ++ word_sign a address ++ codes " " ++ decimal value
 
+-- the value that a swap stores, where it does
+abbrev pub stored_sign : Option ℕ → List ℕ
+stored_sign None = []
+stored_sign (Some value) = codes "=" ++ decimal value
+
+-- a swap that reads 2 and stores 0 as s tail 2=0
+abbrev pub swap_sign : Algorithm → WordAccess → ℕ → List ℕ
+swap_sign a access value = codes "s " ++ word_sign a access.address ++ codes " " ++ decimal value ++ stored_sign access.stores
+
 -- a store as w flag[0]=1
 abbrev pub access_sign : Algorithm → WordAccess → ℕ → List ℕ
 access_sign a access value =
-    if is_some access.stores then codes "w " ++ word_sign a access.address ++ codes "=" ++ decimal value
+    if access.swaps then swap_sign a access value
+    else if is_some access.stores then codes "w " ++ word_sign a access.address ++ codes "=" ++ decimal value
     else load_sign a access.address value
 
--- a repeated load as await turn 1 ×17; the two bytes of the sign are its UTF-8
-abbrev pub blocked_sign : Algorithm → Address → ℕ → ℕ → List ℕ
-blocked_sign a address value times =
-    if times == 1 then load_sign a address value
-    else codes "await " ++ word_sign a address ++ codes " " ++ decimal value ++ 32 ∷ 195 ∷ 151 ∷ decimal times
+-- a repeated reading as await turn 1 ×17; the two bytes of the sign are its UTF-8
+abbrev pub blocked_sign : Algorithm → WordAccess → ℕ → ℕ → List ℕ
+blocked_sign a access value times =
+    if times == 1 then access_sign a access value
+    else codes "await " ++ word_sign a access.address ++ codes " " ++ decimal value ++ 32 ∷ 195 ∷ 151 ∷ decimal times
 
 abbrev pub sign_of : Algorithm → AlgorithmAct → List ℕ
 sign_of a (Took access value) = access_sign a access value
-sign_of a (Blocked address value times) = blocked_sign a address value times
+sign_of a (Blocked access value times) = blocked_sign a access value times
 sign_of a Further = []
 sign_of a Crashed = []
 
 abbrev pub wide_of : AlgorithmAct → ℕ
-wide_of (Blocked address value times) = sign_width times
+wide_of (Blocked access value times) = sign_width times
 wide_of act = sign_width 1
 
 abbrev pub mark_of : AlgorithmAct → Mark

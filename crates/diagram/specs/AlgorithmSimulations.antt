@@ -15,10 +15,11 @@ use Rattle.algorithm_lab.specs.Runs.{AlgorithmRun, line_on, monitor_transitions}
 use Rattle.algorithm_lab.specs.declared.run_refusal.RunRefusal.{RunRefusal}
 use Rattle.diagram.specs.declared.algorithm.row.AlgorithmAct.{AlgorithmAct}
 use Rattle.diagram.specs.declared.algorithm.row.AlgorithmAct.TheVariants.{Crashed}
-use Rattle.diagram.specs.declared.algorithm.row.AlgorithmRow.{AlgorithmRow}
+use Rattle.diagram.specs.declared.algorithm.event_list.MonitorEvent.{MonitorEvent}
 use Rattle.diagram.specs.declared.phase.LifelinePhase.{LifelinePhase}
+use Rattle.diagram.specs.AlgorithmEventLists.{shown_event}
 use Rattle.diagram.specs.AlgorithmEvents.{AlgorithmEvent, events_of}
-use Rattle.diagram.specs.AlgorithmRows.{reported_by, sign_of}
+use Rattle.diagram.specs.AlgorithmRows.{sign_of}
 use Rattle.diagram.specs.AlgorithmStandings.{algorithm_state_text}
 use Rattle.diagram.specs.LockSimulations.{most_steps}
 use Rattle.diagram.specs.Pictures.{around, class_of}
@@ -43,16 +44,12 @@ event_text a event = event_line a event.p event.act event.phase ++ reports_text 
 abbrev pub events_text : Algorithm → List AlgorithmEvent → List ℕ
 events_text a events = flat_map (event_text a) events
 
--- the same by the rows of events: a further row has no step of its own
-abbrev pub line_if : Algorithm → ℕ → AlgorithmAct → Option LifelinePhase → List ℕ
-line_if a p act None = []
-line_if a p act (Some phase) = event_line a p act phase
+-- the same of events that are kept in a list
+abbrev pub kept_line : Algorithm → MonitorEvent → List ℕ
+kept_line a event = event_text a (shown_event event)
 
-abbrev pub row_line : Algorithm → AlgorithmRow → List ℕ
-row_line a row = line_if a row.p row.act row.phase ++ reports_text a (reported_by row.reports)
-
-abbrev pub rows_lines : Algorithm → List AlgorithmRow → List ℕ
-rows_lines a rows = flat_map (row_line a) rows
+abbrev pub kept_lines : Algorithm → List MonitorEvent → List ℕ
+kept_lines a events = flat_map (kept_line a) events
 
 -- ---- a line, which may be refused
 

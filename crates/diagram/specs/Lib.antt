@@ -9,6 +9,8 @@ pub mod Pictures
 pub mod Drawings
 pub mod Followed
 pub mod AlgorithmEvents
+pub mod AlgorithmEventLists
+pub mod AlgorithmEventEffects
 pub mod AlgorithmRows
 pub mod AlgorithmDrawings
 pub mod StepLines
@@ -27,3 +29,5 @@ pub mod LockSimulations
 pub mod Sessions
 pub mod AlgorithmStandings
 pub mod AlgorithmSimulations
+pub mod AlgorithmSteps
+pub mod AlgorithmPages

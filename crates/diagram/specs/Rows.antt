@@ -1,5 +1,5 @@
 -- The rows of a drawing, and the run that they show.
-use Rattle.std.specs.Prelude.{◌≡◌, ℕ, List, [], ◌∷◌, ◌++◌, Option, Some, None, Result, Ok, Err}
+use Rattle.std.specs.Prelude.{◌≡◌, ℕ, List, [], ◌∷◌, Option, Some, None, Result, Ok, Err}
 use Rattle.std.specs.List.{flat_map}
 use Rattle.std.proofs.Math.ListN.{replicate}
 use Rattle.rmecore.specs.declared.refusal.Refusal.{Refusal}

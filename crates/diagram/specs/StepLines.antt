@@ -140,11 +140,13 @@ abbrev pub owns_text : List Own → List ℕ
 owns_text [] = []
 owns_text (own ∷ lock) = own_text own ++ more_owns lock
 
--- the place of a step: its number, process and phase
-unfoldable pub place_text : StepObject → List ℕ
-place_text object =
-    around (codes "{\"step\":") object.step (around (codes ",\"process\":") object.row.p (codes ",\"phase\":\""))
-    ++ class_of object.phase ++ codes "\","
+-- the beginning of the object of a step: its number, its process, and the phase of that after it
+unfoldable pub step_place : ℕ → ℕ → LifelinePhase → List ℕ
+step_place step p phase =
+    around (codes "{\"step\":") step (around (codes ",\"process\":") p (codes ",\"phase\":\"")) ++ class_of phase ++ codes "\","
+
+abbrev pub place_text : StepObject → List ℕ
+place_text object = step_place object.step object.row.p object.phase
 
 -- what it tells, and the lock words after it
 unfoldable pub report_text : ℕ → Option Deed → Option Answer → List Own → List ℕ

@@ -1,6 +1,10 @@
-//! The drawing of a run of an algorithm that is a text.
+//! The run of an algorithm that is a text: its drawing, and its steps.
 
+pub(crate) mod event_list;
 pub mod laws;
+pub mod page;
 pub mod row;
 pub(crate) mod row_collector;
 pub mod run_diagram;
+pub mod step_by_step;
+pub mod step_objects;

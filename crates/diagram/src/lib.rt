@@ -33,7 +33,10 @@ mod step_lines;
 mod stop;
 
 pub use act::{DiagramRow, RowAct};
+pub use algorithm::page::write_algorithm_page;
 pub use algorithm::run_diagram::draw_algorithm;
+pub use algorithm::step_by_step::follow_algorithm;
+pub use algorithm::step_objects::follow_algorithm_as_lines;
 pub use diagram_layout::Style;
 pub use drawing::{Drawing, End, draw};
 pub use drawing_writer::write_drawing;

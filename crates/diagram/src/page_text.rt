@@ -6,7 +6,7 @@ pub const PAGE_HEAD: &str = r#"<!doctype html>
 <head>
 <meta charset='utf-8'>
 <meta name='viewport' content='width=device-width'>
-<title>a run of the lock, step by step</title>
+<title>a run, step by step</title>
 <script>document.documentElement.className = 'opening';</script>
 <style>
 .opening svg{display:none}
@@ -54,10 +54,14 @@ pub const PAGE_SCRIPT: &str = r#"</script>
 const by = id => document.getElementById(id);
 const exact = line => JSON.parse(line.replace(/([[:,])([0-9]{16,})(?=[,}]|])/g, '$1"$2"'));
 const all = by('lines').textContent.trim().split('\n').map(exact);
-const start = all[1];
+// A run of an algorithm that is a text has no images: its words are those of its steps, and 0 before.
+const isLock = all[0].format === 'rmelab steps';
+const start = isLock ? all[1] : { lock: [], data: [], width: 0 };
 const steps = all.filter(line => line.step);
 const verdict = all[all.length - 1].verdict ? all[all.length - 1] : null;
-const procs = start.lock.length;
+const groups = [...document.querySelectorAll('#drawing svg > g')];
+const lifelines = groups.filter(group => group.getAttribute('transform').endsWith(' 80)') && group.querySelector('rect'));
+const procs = lifelines.length;
 const width = Number(start.width);
 
 const KINDS = {
@@ -111,11 +115,11 @@ function gather() {
       now[step.process] = step.phase;
     }
     phases.push(now);
-    if (step.access === 'store' && NAMES.has(step.word)) puts.push([k + 1, NAMES.get(step.word), step.value]);
+    if (isLock && step.access === 'store' && NAMES.has(step.word)) puts.push([k + 1, NAMES.get(step.word), step.value]);
   });
 }
 // The phase in which all processes begin, as the drawing has it at the top of their lifelines.
-const first = () => [...document.querySelectorAll('#drawing svg > g')][6].querySelector('rect').getAttribute('class');
+const first = () => lifelines[0].querySelector('rect').getAttribute('class');
 
 function dataAfter(k) {
   const data = start.data.slice();
@@ -128,9 +132,10 @@ function dataAfter(k) {
 
 // The lines of the run step by step, as `rmelab replay --each` prints them.
 function eventOf(step) {
-  const own = step.access && step.word.replace(/^(choosing|number|inside)\[(\d+)\]$/, (word, name, p) => p == step.process ? name : word);
+  const own = !step.access || !isLock ? step.word : step.word.replace(/^(choosing|number|inside)\[(\d+)\]$/, (word, name, p) => p == step.process ? name : word);
   const access = !step.access ? '' : step.access === 'store' ? ' w ' + own + '=' + step.value : ' r ' + own + ' ' + step.value;
-  return ['at ' + step.process + ' ' + step.phase + access, step.deed, step.answer].filter(line => line !== null).join('\n');
+  const reports = isLock ? [step.deed, step.answer].filter(line => line !== null) : step.report;
+  return ['at ' + step.process + ' ' + step.phase + access, ...reports].join('\n');
 }
 
 // ---- what is shown
@@ -142,6 +147,28 @@ function fill(body, rows, lit) {
     row.append(...cells.map(cell => Object.assign(document.createElement('td'), { textContent: cell })));
     return row;
   }));
+}
+
+function name(body, caption, names) {
+  const table = by(body).parentElement;
+  table.caption.textContent = caption;
+  table.tHead.rows[0].replaceChildren(...names.map(text => Object.assign(document.createElement('th'), { textContent: text })));
+}
+
+// The tables of a run of an algorithm: the phases, and the shared words that its steps have named.
+function nameTables() {
+  if (isLock) return;
+  name('words', 'Processes', ['process', 'phase']);
+  name('messages', 'Shared words that a step has loaded or stored', ['word', 'value']);
+  by('restart').parentElement.hidden = true;
+  by('record').hidden = true;
+}
+
+function showAlgorithm(k) {
+  fill(by('words'), phases[k].map((phase, q) => [q, phase]), k > 0 ? steps[k - 1].process : -1);
+  const words = new Map();
+  for (const step of steps.slice(0, k)) if (step.access) words.set(step.word, step.value);
+  fill(by('messages'), [...words], -1);
 }
 
 function showWords(k, lock) {
@@ -169,8 +196,8 @@ function showStep(k) {
   const step = steps[k - 1];
   by('title').textContent = step ? 'Step ' + k + ' of ' + steps.length : 'Before the first of ' + steps.length + ' steps';
   by('event').textContent = step ? eventOf(step) : '';
-  by('kind').textContent = !step ? '' : step.kind === 'crash' ? 'A crash: the process loses its private memory. No word changes.'
-    : step.kind + ': ' + KINDS[step.kind];
+  by('kind').textContent = !step ? '' : !step.access ? 'A crash: the process loses its private memory. No word changes.'
+    : isLock ? step.kind + ': ' + KINDS[step.kind] : '';
   const over = k === steps.length;
   by('end').textContent = !over ? '' : !verdict ? 'The next line of the schedule is refused.'
     : verdict.verdict === 'fine' ? 'The run ends here. verdict fine'
@@ -179,7 +206,8 @@ function showStep(k) {
 
 // ---- the drawing
 
-// The row of the drawing that shows each step: a blocked step and its repetitions are one row. Of a long drawing only the rows
+// The row of the drawing that shows each step: a blocked step and its repetitions are one row. A row without a mark is one more line
+// of what the step before it reports. Of a long drawing only the rows
 // near the one shown are in the page, with the last row of each process before them that begins a phase. Until they are found
 // the drawing is not shown, so that the browser never has to lay out all of it.
 const NEAR = 64;
@@ -188,10 +216,11 @@ const begun = [];
 const rows = [];
 function findRows() {
   const last = [];
-  rows.push(...[...document.querySelectorAll('#drawing svg > g')].slice(6 + procs));
+  rows.push(...groups.slice(groups.indexOf(lifelines[procs - 1]) + 1));
   rows.forEach((group, at) => {
     const again = /×([0-9]+)$/.exec(group.firstElementChild.textContent.split('\n')[0]);
-    for (let times = again ? Number(again[1]) : 1; times > 0; times--) rowOf.push(at + 1);
+    const marked = [...group.children].some(part => (part.tagName === 'circle' && part.getAttribute('r') === '3') || part.getAttribute('class') === 'crash');
+    for (let times = !marked ? 0 : again ? Number(again[1]) : 1; times > 0; times--) rowOf.push(at + 1);
     if (at % NEAR === 0) begun.push(last.filter(group => group));
     if (group.children[1].tagName === 'rect') last[steps[rowOf.length - 2].process] = group;
   });
@@ -236,8 +265,12 @@ function show(k) {
   shown = to;
   by('place').value = to;
   showStep(to);
-  showWords(to, to > 0 ? steps[to - 1].lock : start.lock);
-  showMail(dataAfter(to));
+  if (isLock) {
+    showWords(to, to > 0 ? steps[to - 1].lock : start.lock);
+    showMail(dataAfter(to));
+  } else {
+    showAlgorithm(to);
+  }
   showRow(to);
 }
 
@@ -255,6 +288,7 @@ by('back').addEventListener('click', () => show(shown - 1));
 by('on').addEventListener('click', () => show(shown + 1));
 addEventListener('hashchange', () => show(Number(location.hash.slice(1))));
 
+nameTables();
 nameWords();
 gather();
 findRows();

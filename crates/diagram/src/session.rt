@@ -2,7 +2,6 @@
 
 mod algorithm_positions;
 mod algorithm_simulation;
-mod algorithm_step_lines;
 mod last_steps;
 pub mod laws;
 mod line_play;

@@ -6,12 +6,13 @@ ghost use Rattle.std.specs.List.{join_with_byte};
 ghost use Rattle.schedule.specs.Answers.{words_of_answer};
 ghost use Rattle.schedule.specs.Deeds.{words_of_deed};
 ghost use Rattle.diagram.specs.StepLines.{access_name, act_text, against_text, answer_text, deed_text, fault_text, happened_text, object_line, object_of};
-ghost use Rattle.diagram.specs.StepLines.{own_text, more_owns, overtaking_text, owns_text, place_text, report_text, verdict_object};
+ghost use Rattle.diagram.specs.StepLines.{own_text, more_owns, overtaking_text, owns_text, place_text, report_text, step_place, verdict_object};
 
 use crate::act::{DiagramRow, RowAct};
 use crate::lifelines::class_of;
 use crate::lock_words::Played;
 use crate::page_parts::{put_around, put_decimal, put_text};
+use crate::phase::LifelinePhase;
 use crate::signs::{name_of, put_word, stores};
 use crate::step_by_step::phase_of;
 use redomail::{Deed, Layout};
@@ -142,19 +143,32 @@ fn put_lock(out: &mut Vec<u8>, lock: &[Own]) -> Result<(), AllocError>
 }
 
 /// Writes the number of a step, its process and the process's phase.
-#[tactic(auto, unfolding(crate::specs::StepLines::place_text))]
+#[tactic(auto, unfolding(crate::specs::StepLines::step_place))]
+pub(crate) fn put_step_place(
+    out: &mut Vec<u8>,
+    step: u64,
+    p: u64,
+    phase: LifelinePhase,
+) -> Result<(), AllocError>
+    ensures { OnOk result (out.new.items ≡ out.old.items ++ step_place step p phase) }
+{
+    put_around(out, b"{\"step\":", step, b",\"process\":")?;
+    put_around(out, b"", p, b",\"phase\":\"")?;
+    put_text(out, class_of(phase))?;
+    put_text(out, b"\",")
+}
+
+/// Writes the same of a row, which has been played.
 fn put_place(out: &mut Vec<u8>, played: &Played, row: &DiagramRow) -> Result<(), AllocError>
     ensures { OnOk result (out.new.items ≡ out.old.items ++ place_text (object_of played.now row.now)) }
 {
-    put_around(
+    let lifelines = played.lifelines();
+    put_step_place(
         out,
-        b"{\"step\":",
-        played.lifelines().rows(),
-        b",\"process\":",
-    )?;
-    put_around(out, b"", row.p, b",\"phase\":\"")?;
-    put_text(out, class_of(phase_of(played.lifelines().phases(), row.p)))?;
-    put_text(out, b"\",")
+        lifelines.rows(),
+        row.p,
+        phase_of(lifelines.phases(), row.p),
+    )
 }
 
 /// Writes what a step tells, and the lock words after it.

@@ -2,7 +2,7 @@
 
 ghost use Rattle.std.specs.Prelude.{◌≡◌, ◌++◌, OnOk};
 ghost use Rattle.diagram.specs.AlgorithmEvents.{act_of as act_in, lifeline_phase as phase_in};
-ghost use Rattle.diagram.specs.AlgorithmRows.{access_sign, answer_reported, blocked_sign, deed_report as deed_in, load_sign, mark_of as mark_in, shown_in, sign_of, wide_of as wide_in, word_sign};
+ghost use Rattle.diagram.specs.AlgorithmRows.{access_sign, answer_reported, blocked_sign, deed_report as deed_in, load_sign, mark_of as mark_in, swap_sign, shown_in, sign_of, wide_of as wide_in, word_sign};
 
 use crate::mark::Mark;
 use crate::page_parts::{put_indexed, put_piece, put_text};
@@ -18,10 +18,10 @@ use std::alloc::AllocError;
 /// What a process of an algorithm does in one row.
 #[derive(Clone, Copy, Debug, PartialEq, Eq)]
 pub enum AlgorithmAct {
-    /// A step, with the value that it loads or stores.
+    /// A step, with the value that it reads, or stores where it reads none.
     Took(WordAccess, u64),
     /// A blocked reading of a word, with its value. It counts how often it was taken with no other step between.
-    Blocked(Address, u64, u64),
+    Blocked(WordAccess, u64, u64),
     /// Nothing more: a further line of what the row before it reports.
     Further,
     Crashed,
@@ -42,7 +42,7 @@ pub(crate) fn act_of(advanced: &Advanced) -> AlgorithmAct
     ensures { result ≡ act_in advanced.now }
 {
     if advanced.blocked {
-        AlgorithmAct::Blocked(advanced.access.address, advanced.value, 1)
+        AlgorithmAct::Blocked(advanced.access, advanced.value, 1)
     } else {
         AlgorithmAct::Took(advanced.access, advanced.value)
     }
@@ -62,7 +62,11 @@ pub(crate) fn lifeline_phase(phase: Phase) -> LifelinePhase
 }
 
 /// Writes the name of a shared word.
-fn put_word(out: &mut Vec<u8>, algorithm: &Algorithm, address: Address) -> Result<(), AllocError>
+pub(crate) fn put_word(
+    out: &mut Vec<u8>,
+    algorithm: &Algorithm,
+    address: Address,
+) -> Result<(), AllocError>
     ensures { OnOk result (out.new.items ≡ out.old.items ++ word_sign algorithm.now address) }
 {
     match algorithm.declarations.get(address.declaration) {
@@ -88,7 +92,25 @@ fn put_load(
     put_piece(out, b" ", value)
 }
 
-/// Writes a store as `w flag[0]=1`, and a load.
+/// Writes a swap as `s tail 2=0`: it read 2 and stored 0. One that stores nothing is `s tail 2`.
+fn put_swap(
+    out: &mut Vec<u8>,
+    algorithm: &Algorithm,
+    access: WordAccess,
+    value: u64,
+) -> Result<(), AllocError>
+    ensures { OnOk result (out.new.items ≡ out.old.items ++ swap_sign algorithm.now access value) }
+{
+    put_text(out, b"s ")?;
+    put_word(out, algorithm, access.address)?;
+    put_piece(out, b" ", value)?;
+    match access.stores {
+        Some(stored) => put_piece(out, b"=", stored),
+        None => Ok(()),
+    }
+}
+
+/// Writes a store as `w flag[0]=1`, a swap, and a load.
 fn put_access(
     out: &mut Vec<u8>,
     algorithm: &Algorithm,
@@ -97,6 +119,9 @@ fn put_access(
 ) -> Result<(), AllocError>
     ensures { OnOk result (out.new.items ≡ out.old.items ++ access_sign algorithm.now access value) }
 {
+    if access.swaps {
+        return put_swap(out, algorithm, access, value);
+    }
     if access.stores.is_some() {
         put_text(out, b"w ")?;
         put_word(out, algorithm, access.address)?;
@@ -109,22 +134,22 @@ fn put_access(
 fn put_blocked(
     out: &mut Vec<u8>,
     algorithm: &Algorithm,
-    address: Address,
+    access: WordAccess,
     value: u64,
     times: u64,
 ) -> Result<(), AllocError>
-    ensures { OnOk result (out.new.items ≡ out.old.items ++ blocked_sign algorithm.now address value times) }
+    ensures { OnOk result (out.new.items ≡ out.old.items ++ blocked_sign algorithm.now access value times) }
 {
     if times == 1 {
-        return put_load(out, algorithm, address, value);
+        return put_access(out, algorithm, access, value);
     }
     put_text(out, b"await ")?;
-    put_word(out, algorithm, address)?;
+    put_word(out, algorithm, access.address)?;
     put_piece(out, b" ", value)?;
     put_piece(out, b" \xc3\x97", times)
 }
 
-/// Writes what a row does: a store as `w flag[0]=1`, a load as `r turn 1`, and nothing for a crash.
+/// Writes what a row does: a store as `w flag[0]=1`, a load as `r turn 1`, a swap as `s tail 2=0`, and nothing for a crash.
 pub(crate) fn put_sign(
     out: &mut Vec<u8>,
     algorithm: &Algorithm,
@@ -134,8 +159,8 @@ pub(crate) fn put_sign(
 {
     match act {
         AlgorithmAct::Took(access, value) => put_access(out, algorithm, access, value),
-        AlgorithmAct::Blocked(address, value, times) => {
-            put_blocked(out, algorithm, address, value, times)
+        AlgorithmAct::Blocked(access, value, times) => {
+            put_blocked(out, algorithm, access, value, times)
         }
         AlgorithmAct::Further | AlgorithmAct::Crashed => Ok(()),
     }

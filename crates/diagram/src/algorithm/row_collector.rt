@@ -1,8 +1,11 @@
 //! Collects the rows of a drawing of an algorithm's run.
 
-ghost use Rattle.std.specs.Prelude.{◌≡◌, ◌++◌, [], OnOk, drop, map};
+ghost use Rattle.std.specs.Prelude.{◌≡◌, ◌++◌, [], IfOk, OnOk, drop, map};
+ghost use Rattle.diagram.specs.AlgorithmEventLists.{shown_event};
+ghost use Rattle.diagram.specs.AlgorithmPages.{with_kept};
 ghost use Rattle.diagram.specs.AlgorithmRows.{row_counted_again as counted_in, counted_by, further_row as further_of, last_of, rows_of, with_event};
 
+use crate::algorithm::event_list::MonitorEvent;
 use crate::algorithm::row::{AlgorithmAct, AlgorithmRow, act_of, lifeline_phase};
 use crate::phase::LifelinePhase;
 use algorithm_lab::heard::{phase_after_step, put_crash, put_step};
@@ -14,17 +17,17 @@ use std::alloc::{AllocError, Global};
 fn counted_row(row: &AlgorithmRow, p: u64, act: AlgorithmAct) -> Option<AlgorithmRow>
     ensures { result ≡ counted_by p row.now row.now.act act }
 {
-    let AlgorithmAct::Blocked(word, value, times) = row.act else {
+    let AlgorithmAct::Blocked(access, value, times) = row.act else {
         return None;
     };
     let AlgorithmAct::Blocked(again, read, _) = act else {
         return None;
     };
-    let is_again = again == word;
+    let is_again = again.address == access.address;
     if p == row.p && is_again && read == value && times < u64::MAX {
         Some(AlgorithmRow {
             p: row.p,
-            act: AlgorithmAct::Blocked(word, value, times + 1),
+            act: AlgorithmAct::Blocked(access, value, times + 1),
             phase: row.phase,
             reports: row.reports,
         })
@@ -115,28 +118,55 @@ fn note(
     Ok(())
 }
 
+/// Takes an event of a list into the rows.
+fn note_event(
+    alloc: Global,
+    rows: &mut Vec<AlgorithmRow>,
+    event: &MonitorEvent,
+) -> Result<(), AllocError>
+    ensures { OnOk result (rows.new.items ≡ with_event rows.old.items (shown_event event.now)) }
+{
+    let mut reports = Vec::new(alloc);
+    event.put_reports(&mut reports)?;
+    note(
+        rows,
+        event.process(),
+        event.act(),
+        event.phase(),
+        reports.as_slice(),
+    )
+}
+
+/// The rows of a drawing of the events of a list.
+pub(crate) fn rows_of_events(
+    alloc: Global,
+    events: &[MonitorEvent],
+) -> Result<Vec<AlgorithmRow>, AllocError>
+    ensures { IfOk result (λ rows. rows.items ≡ with_kept [] events.now) }
+{
+    let mut rows = Vec::new(alloc);
+    for event in events {
+        note_event(alloc, &mut rows, event)?;
+    }
+    Ok(rows)
+}
+
 /// The rows of a drawing, and what they report. They hear the events of a run.
 #[derive(Drop)]
 pub(crate) struct AlgorithmRows {
     pub rows: Vec<AlgorithmRow>,
     pub reports: Vec<TextReport>,
-    /// A blocked reading that repeats the row before counts once more in it.
-    pub counts: bool,
 }
 
 impl AlgorithmRows {
-    ghost use Rattle.diagram.specs.AlgorithmRowEffects.{rows_after};
-
     /// No rows.
-    pub fn new(alloc: Global, counts: bool) -> AlgorithmRows
-        ensures counts { result.counts ≡ counts }
+    pub fn new(alloc: Global) -> AlgorithmRows
         ensures rows { result.rows.items ≡ [] }
         ensures reports { result.reports.items ≡ [] }
     {
         AlgorithmRows {
             rows: Vec::new(alloc),
             reports: Vec::new(alloc),
-            counts,
         }
     }
 
@@ -148,17 +178,12 @@ impl AlgorithmRows {
         phase: LifelinePhase,
         from: usize,
     ) -> Result<(), AllocError>
-        ensures counts { OnOk result (self.new.counts ≡ self.old.counts) }
-        ensures rows { OnOk result (self.new.rows.items ≡ rows_after self.old.counts self.old.rows.items
+        ensures rows { OnOk result (self.new.rows.items ≡ with_event self.old.rows.items
             (record { p = p; act = act; phase = phase; reports = drop from self.old.reports.items })) }
         ensures reports { OnOk result (self.new.reports.items ≡ self.old.reports.items) }
     {
         let reports = reports_after(self.reports.as_slice(), from);
-        if self.counts {
-            note(&mut self.rows, p, act, phase, reports)
-        } else {
-            put_rows(&mut self.rows, p, act, phase, reports)
-        }
+        note(&mut self.rows, p, act, phase, reports)
     }
 }
 

@@ -23,10 +23,10 @@ use std::alloc::{AllocError, Global};
 
 /// The rows of a run of an algorithm, its verdict, and the line that is refused, if one is.
 #[derive(Drop)]
-struct AlgorithmDrawing {
-    rows: Vec<AlgorithmRow>,
-    verdict: Verdict,
-    refused: Option<(u64, RunRefusal)>,
+pub(crate) struct AlgorithmDrawing {
+    pub rows: Vec<AlgorithmRow>,
+    pub verdict: Verdict,
+    pub refused: Option<(u64, RunRefusal)>,
 }
 
 /// How a run ends.
@@ -51,9 +51,9 @@ fn play(
 ) -> Result<AlgorithmDrawing, AllocError>
     ensures { IfOk result (λ d. IsDrawing monitor.old schedule.now.lines d.rows.items d.verdict d.refused monitor.new) }
 {
-    let mut rows = AlgorithmRows::new(alloc, true);
+    let mut rows = AlgorithmRows::new(alloc);
     let refused = hear_lines(monitor, &mut rows, schedule.lines())?;
-    let AlgorithmRows { rows, reports, .. } = rows;
+    let AlgorithmRows { rows, reports } = rows;
     let verdict = verdict_of(alloc, monitor.world().procs(), reports.as_slice())?;
     Ok(AlgorithmDrawing {
         rows,
@@ -79,7 +79,7 @@ fn outline_of(style: Style, head: Head, drawing: &AlgorithmDrawing) -> Outline
 }
 
 /// Writes the drawing of rows.
-fn write_algorithm<W: Sink>(
+pub(crate) fn write_algorithm<W: Sink>(
     alloc: Global,
     head: Head,
     algorithm: &Algorithm,

@@ -1,17 +1,31 @@
 //! A world of an algorithm with its monitor, as a session plays it.
 
+ghost use Rattle.std.specs.Prelude.{IfOk};
 ghost use Rattle.algorithm_lab.proofs.Restarts.{restarted_twice};
-ghost use Rattle.diagram.specs.AlgorithmSimulations.{algorithm_semantics, begins_after_line};
+ghost use Rattle.diagram.specs.AlgorithmSimulations.{HasNumber, algorithm_semantics, begins_after_line};
 
-use crate::algorithm::row_collector::AlgorithmRows;
+use crate::algorithm::event_list::EventList;
+use crate::algorithm::step_by_step::put_events;
 use crate::session::algorithm_positions::put_algorithm_state;
-use crate::session::algorithm_step_lines::{number_of, put_rows};
 use crate::session::simulation::Simulation;
 use crate::session::way::steps_to_answer;
-use algorithm_lab::Monitor;
+use algorithm_lab::{Monitor, RunRefusal};
 use schedule::texts::head::Head;
-use schedule::{Count, Line, Schedule, play_line};
+use schedule::{Count, Line, OutOfMemory, PlayStop, Schedule, play_line};
 use std::alloc::{AllocError, Global};
+
+/// The number of the refusal of a line that is not played to its end. Out of memory is no refusal.
+fn number_of(stop: PlayStop<RunRefusal, OutOfMemory>) -> Result<u64, AllocError>
+    ensures { IfOk result (λ number. HasNumber stop number) }
+{
+    let PlayStop::Refused(refusal) = stop else {
+        return Err(AllocError);
+    };
+    match refusal.number() {
+        Some(number) => Ok(number),
+        None => Err(AllocError),
+    }
+}
 
 impl Simulation for Monitor {
     ghost semantics = { algorithm_semantics };
@@ -35,10 +49,10 @@ impl Simulation for Monitor {
         out: &mut Vec<u8>,
     ) -> Result<Option<u64>, AllocError> {
         let checkpoint = self.checkpoint(alloc)?;
-        let mut rows = AlgorithmRows::new(alloc, false);
-        match play_line(self, &mut rows, line) {
+        let mut list = EventList::new(alloc);
+        match play_line(self, &mut list, line) {
             Ok(()) => {
-                put_rows(out, self.world().algorithm(), rows.rows.as_slice())?;
+                put_events(alloc, out, self.world().algorithm(), list.events.as_slice())?;
                 Ok(None)
             }
             Err(stop) => {

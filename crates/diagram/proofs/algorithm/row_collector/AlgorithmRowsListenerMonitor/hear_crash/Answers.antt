@@ -10,5 +10,5 @@ pub returns-clause-ok : goal.returns-clause-ok
 returns-clause-ok c =
     let before = c.args.self.now in
     let mid : AlgorithmRows = record before { reports = c.put_crash.new.reports } in
-    takes_event before mid c.take.new.self (Fell c.args.p c.args.crash.now) Crashed Dead c.len-before.result refl refl c.in_ok-put_crash.ensures (omega (arith, c.len-before.ensures)) refl refl c.in_ok-take.ensures.counts
+    takes_event before mid c.take.new.self (Fell c.args.p c.args.crash.now) Crashed Dead c.len-before.result refl c.in_ok-put_crash.ensures (omega (arith, c.len-before.ensures)) refl refl
     c.in_ok-take.ensures.rows c.in_ok-take.ensures.reports

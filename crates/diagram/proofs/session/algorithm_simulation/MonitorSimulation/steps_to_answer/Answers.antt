@@ -1,4 +1,4 @@
-use Rattle.std.proofs.Common.{◌≡◌, length, sym, ap, ◌∙◌}
+use Rattle.std.proofs.Common.{length, sym, ap, ◌∙◌}
 use Rattle.diagram.proofs.AlgorithmSessions.{same_count, steps_begin, went_back}
 use Rattle.diagram.proofs.session.algorithm_simulation.MonitorSimulation.steps_to_answer.Goals as goal
 

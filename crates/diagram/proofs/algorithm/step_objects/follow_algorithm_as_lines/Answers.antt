@@ -1,0 +1,15 @@
+use Rattle.diagram.proofs.AlgorithmSteps.{none_written, written_on_new}
+use Rattle.diagram.proofs.Common.{err_from_is_err_and}
+use Rattle.diagram.specs.AlgorithmSteps.{objects_by_steps}
+use Rattle.diagram.proofs.algorithm.step_objects.follow_algorithm_as_lines.Goals as goal
+
+pub returns-in_err-monitor : goal.returns-in_err-monitor
+returns-in_err-monitor g c =
+    let p = err_from_is_err_and c.from_residual.result c.from_residual.ensures.1 in
+    rw (p.1, p.2) (none_written objects_by_steps c.args.algorithm c.args.schedule.now (g.W.Sink.tape c.args.w.now) c.in_err-monitor.field-0.0 c.in_err-monitor.ensures.refused)
+
+pub returns : goal.returns
+returns g c =
+    let made = c.in_ok-lines.lines in
+    written_on_new objects_by_steps c.args.algorithm c.args.schedule.now c.in_ok-monitor.monitor made.text.items made.ended (g.W.Sink.tape c.args.w.now) (g.W.Sink.tape c.write_to.new.w) c.write_to.result
+    c.in_ok-monitor.ensures.made c.in_ok-monitor.ensures.accepted c.in_ok-lines.ensures c.write_to.ensures

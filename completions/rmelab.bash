@@ -3,7 +3,7 @@ _rmelab() {
     local word=${COMP_WORDS[COMP_CWORD]} before=${COMP_WORDS[COMP_CWORD - 1]} names
     COMPREPLY=()
     if ((COMP_CWORD == 1)); then
-        mapfile -t COMPREPLY < <(compgen -W "replay run hunt explore judge draw shrink step explain help -h --help -V --version" -- "$word")
+        mapfile -t COMPREPLY < <(compgen -W "replay run hunt explore states judge draw shrink step explain help -h --help -V --version" -- "$word")
         return
     fi
     case ${COMP_WORDS[1]}:$before in
@@ -21,6 +21,7 @@ _rmelab() {
         hunt:--procs) : && return ;;
         hunt:--limit) : && return ;;
         hunt:--seed) : && return ;;
+        hunt:--first-round) : && return ;;
         hunt:--rounds) : && return ;;
         hunt:--steps) : && return ;;
         hunt:--jobs) : && return ;;
@@ -36,6 +37,18 @@ _rmelab() {
         explore:--width) : && return ;;
         explore:--starving) : && return ;;
         explore:--jobs) : && return ;;
+        states:--variant) mapfile -t COMPREPLY < <(compgen -W "right no-look no-ties renumber exit-on-crash count-up last-skipped" -- "$word") && return ;;
+        states:--algorithm) mapfile -t COMPREPLY < <(compgen -f -- "$word") && return ;;
+        states:--procs) : && return ;;
+        states:--calls) : && return ;;
+        states:--crashes) : && return ;;
+        states:--limit) : && return ;;
+        states:--cap) : && return ;;
+        states:--width) : && return ;;
+        states:--words) : && return ;;
+        states:--digits) : && return ;;
+        states:--part) : && return ;;
+        states:--parts) : && return ;;
         draw:--variant) mapfile -t COMPREPLY < <(compgen -W "right no-look no-ties renumber exit-on-crash count-up last-skipped" -- "$word") && return ;;
         draw:--algorithm) mapfile -t COMPREPLY < <(compgen -f -- "$word") && return ;;
         draw:--image) mapfile -t COMPREPLY < <(compgen -f -- "$word") && return ;;
@@ -46,8 +59,9 @@ _rmelab() {
     case ${COMP_WORDS[1]} in
         replay) mapfile -t COMPREPLY < <(compgen -W "--json --each --variant --algorithm --image --save -h --help" -- "$word"; compgen -f -- "$word") ;;
         run) mapfile -t COMPREPLY < <(compgen -W "--procs --messages --crash --seed --width -h --help" -- "$word") ;;
-        hunt) mapfile -t COMPREPLY < <(compgen -W "--variant --algorithm --procs --limit --seed --rounds --steps --shrink --jobs -h --help" -- "$word") ;;
+        hunt) mapfile -t COMPREPLY < <(compgen -W "--variant --algorithm --procs --limit --seed --first-round --rounds --steps --shrink --jobs -h --help" -- "$word") ;;
         explore) mapfile -t COMPREPLY < <(compgen -W "--variant --algorithm --procs --calls --crashes --moves --states --limit --cap --width --stuck --starving --all-variables --jobs -h --help" -- "$word") ;;
+        states) mapfile -t COMPREPLY < <(compgen -W "--variant --algorithm --procs --calls --crashes --limit --cap --width --words --digits --part --parts -h --help" -- "$word"; compgen -f -- "$word") ;;
         judge) mapfile -t COMPREPLY < <(compgen -W "--json -h --help" -- "$word"; compgen -f -- "$word") ;;
         draw) mapfile -t COMPREPLY < <(compgen -W "--variant --algorithm --image --svg --html -h --help" -- "$word"; compgen -f -- "$word") ;;
         shrink) mapfile -t COMPREPLY < <(compgen -W "--variant --algorithm -h --help" -- "$word"; compgen -f -- "$word") ;;

@@ -23,6 +23,8 @@ pub enum Kind {
     Run,
     /// The replay of a schedule.
     Report,
+    /// The replay of a schedule with each step, and without the lines of the steps.
+    ReportOfSteps,
     /// The drawing of a schedule as text.
     Drawing,
     /// The drawing of one schedule as text and as SVG.
@@ -83,6 +85,7 @@ fn put_outcome(
         Kind::Answers => spelling::put_answers_of(alloc, given, text),
         Kind::Run => runs::put_run(alloc, words, given, text),
         Kind::Report => schedules::put_report(alloc, words, given, text),
+        Kind::ReportOfSteps => schedules::put_report_of_steps(alloc, words, given, text),
         Kind::Drawing => drawings::put_drawing(alloc, words, given, text),
         Kind::Picture => drawings::put_picture(alloc, words, text),
         Kind::Hunt => hunts::put_hunt(alloc, words, text),

@@ -39,4 +39,6 @@ mod starving;
 mod stuck;
 #[cfg(test)]
 mod support;
+#[cfg(test)]
+mod swaps;
 pub mod texts;

@@ -3,6 +3,7 @@
 use crate::cases::{Kind, case_of};
 use crate::drawings::ALONE;
 use crate::reports::others::ONE_WORD;
+use crate::schedules::ALONE_BY_STEPS;
 use crate::sinks::put_out;
 use crate::support::text_named;
 use algorithm_explorer::{
@@ -189,5 +190,6 @@ fn memory_is_refused(rt: HostRuntime) -> Result<(), Fail> {
     compare(&rt, rt.alloc(), Kind::Hunt, HUNT, 7)?;
     compare(&rt, rt.alloc(), Kind::Shrink, SHRINK, 5)?;
     compare(&rt, rt.alloc(), Kind::Report, ONE_WORD, 0)?;
+    compare(&rt, rt.alloc(), Kind::ReportOfSteps, ALONE_BY_STEPS, 0)?;
     compare(&rt, rt.alloc(), Kind::Drawing, ALONE, 0)
 }

@@ -35,6 +35,21 @@ fn put_deeds(noted: NotedDeeds, text: &mut String) -> Result<(), AllocError> {
     Ok(())
 }
 
+/// Writes what an access reads or stores: of a swap `swap 0 = 1`.
+fn put_value(taken: &Taken, text: &mut String) -> Result<(), AllocError> {
+    if taken.access.swaps {
+        write!(text, " swap {}", taken.value)?;
+        if let Some(stored) = taken.access.stores {
+            write!(text, " = {stored}")?;
+        }
+        return Ok(());
+    }
+    if taken.access.stores.is_some() {
+        text.push_str(" =")?;
+    }
+    write!(text, " {}", taken.value)
+}
+
 /// Writes the access of a step: `9 flag[0] = 1`.
 fn put_access(algorithm: &Algorithm, taken: &Taken, text: &mut String) -> Result<(), AllocError> {
     let address = taken.access.address;
@@ -48,10 +63,7 @@ fn put_access(algorithm: &Algorithm, taken: &Taken, text: &mut String) -> Result
     if word.each {
         write!(text, "[{}]", address.index)?;
     }
-    if taken.access.stores.is_some() {
-        text.push_str(" =")?;
-    }
-    write!(text, " {}", taken.value)
+    put_value(taken, text)
 }
 
 /// Writes that a call ends, and its answer.

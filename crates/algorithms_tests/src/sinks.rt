@@ -3,11 +3,12 @@
 use crate::cases::{Kind, case_of};
 use crate::drawings::ALONE;
 use crate::reports::others::ONE_WORD;
+use crate::schedules::ALONE_BY_STEPS;
 use crate::support::text_named;
 use algorithm_lab::{AlgorithmReplayFault, replay_algorithm};
 use algorithm_texts::read_algorithm;
 use algorithms::Algorithm;
-use diagram::{Style, draw_algorithm};
+use diagram::{Style, draw_algorithm, follow_algorithm};
 use schedule::{Schedule, Sink, ToWriter, Verdict, read_schedule};
 use std::alloc::Global;
 use std::io;
@@ -29,7 +30,7 @@ impl Write for Unflushed {
     }
 }
 
-/// Draws a run as text, or reports it.
+/// Draws a run as text, or reports it, with each step or without.
 pub fn put_out<W: Sink>(
     alloc: Global,
     kind: Kind,
@@ -39,6 +40,7 @@ pub fn put_out<W: Sink>(
 ) -> Result<Verdict, AlgorithmReplayFault> {
     match kind {
         Kind::Drawing => draw_algorithm(alloc, algorithm, schedule, Style::Text, w),
+        Kind::ReportOfSteps => follow_algorithm(alloc, algorithm, schedule, w),
         _ => replay_algorithm(alloc, algorithm, schedule, w),
     }
 }
@@ -92,5 +94,6 @@ fn compare<R: Abort>(rt: &R, alloc: Global, kind: Kind, case: &str) -> Result<()
 #[test]
 fn a_sink_fails(rt: HostRuntime) -> Result<(), Fail> {
     compare(&rt, rt.alloc(), Kind::Report, ONE_WORD)?;
+    compare(&rt, rt.alloc(), Kind::ReportOfSteps, ALONE_BY_STEPS)?;
     compare(&rt, rt.alloc(), Kind::Drawing, ALONE)
 }

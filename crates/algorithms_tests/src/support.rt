@@ -1,7 +1,7 @@
 //! What tests of several files use.
 
 use crate::sessions;
-use crate::texts::{bakeries, constructs, others};
+use crate::texts::{bakeries, constructs, others, swaps};
 use algorithm_lab::AlgorithmReplayFault;
 use schedule::{Schedule, write_schedule};
 use std::alloc::{AllocError, Global};
@@ -41,6 +41,16 @@ pub fn text_named(name: &str) -> &'static [u8] {
         others::PETERSON_ORDER,
         others::RECOVERABLE_PETERSON,
         others::SZYMANSKI,
+        swaps::MCS,
+        swaps::RECOVERABLE_TEST_AND_SET,
+        swaps::RECOVERABLE_TICKET,
+        swaps::TEST_AND_SET,
+        swaps::TEST_AND_TEST_AND_SET,
+        swaps::TICKET,
+        swaps::BOARD,
+        swaps::COUNTER,
+        swaps::OWNER,
+        swaps::TURNSTILE,
         constructs::CONSTRUCTS,
         sessions::BOUNDED,
     ] {

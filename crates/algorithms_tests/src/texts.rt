@@ -3,3 +3,4 @@
 pub mod bakeries;
 pub mod constructs;
 pub mod others;
+pub mod swaps;

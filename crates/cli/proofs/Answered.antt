@@ -5,22 +5,22 @@ use Rattle.std.proofs.lemmas.Bool.{false≢true}
 use Rattle.clap.specs.Words.{Text, first_of, fault_of, subcommand_of, IsAmong}
 use Rattle.clap.specs.Kinds.{Kinds}
 use Rattle.clap.specs.declared.error.kind.ErrorKind.{ErrorKind}
-use Rattle.crashlab.specs.declared.variant.Variant.{Variant}
-use Rattle.crashlab.specs.declared.variant.Variant.TheVariants.{Right, NoLook, NoTies, Renumber, ExitOnCrash, CountUp, LastSkipped}
+use Rattle.crashlab.specs.declared.variants.variant.Variant.{Variant}
+use Rattle.crashlab.specs.declared.variants.variant.Variant.TheVariants.{Right, NoLook, NoTies, Renumber, ExitOnCrash, CountUp, LastSkipped}
 use Rattle.cli.specs.declared.arguments.args.Command.{Command}
 use Rattle.cli.specs.declared.arguments.args.Cycles.{Cycles}
 use Rattle.cli.specs.declared.arguments.args.HuntArgs.{HuntArgs}
 use Rattle.cli.specs.declared.arguments.args.AlgorithmHuntArgs.{AlgorithmHuntArgs}
 use Rattle.cli.specs.declared.arguments.args.ExploreArgs.{ExploreArgs}
 use Rattle.cli.specs.declared.arguments.args.AlgorithmExploreArgs.{AlgorithmExploreArgs}
-use Rattle.cli.specs.declared.arguments.args.Command.TheVariants.{Replay, ReplayAlgorithm, Run, Hunt, HuntAlgorithm, Explore, ExploreAlgorithm, Judge, Draw, DrawAlgorithm, Shrink, ShrinkAlgorithm, Step, StepAlgorithm, Explain}
+use Rattle.cli.specs.declared.arguments.args.Command.TheVariants.{Replay, ReplayAlgorithm, Run, Hunt, HuntAlgorithm, Explore, ExploreAlgorithm, States, StatesAlgorithm, Judge, Draw, DrawAlgorithm, Shrink, ShrinkAlgorithm, Step, StepAlgorithm, Explain}
 use Rattle.cli.specs.declared.arguments.words.WordsFault.{WordsFault}
 use Rattle.cli.specs.declared.arguments.words.WordsFault.TheVariants.{Help, Refused, BadVariant, BadSize, Unreadable, OutOfMemory}
 use Rattle.cli.specs.CommandLine.{rmelab}
 use Rattle.cli.specs.Given.{Given, AsksFor, AsksForCycles, word_of_cycles, word_of_variant}
 use Rattle.cli.specs.ReadWords.{GoesWithImage, IsAlone, IsBadBesideImage, IsBesideAlgorithm, IsBadVariant, TakesImage, NeedsLock, HasBadVariant}
 use Rattle.cli.specs.ReadWords.{IsHunt, IsAlgorithmHunt, IsBadHunt, IsBadAlgorithmHunt, IsExplore, IsAlgorithmExplore, IsBadSearch, IsBadAlgorithmSearch, IsBadStarving}
-use Rattle.cli.specs.ReadWords.{IsOutOfRange, HasBadSize, HasNoLock, HasBadWords, IsCommand, TakesWords, IsWordsRefusal}
+use Rattle.cli.specs.ReadWords.{IsOutOfRange, HasBadSize, HasNoLock, HasBadWords, IsCommand, IsFault, IsFaultOfSearch, IsFaultOfStream, TakesWords, IsWordsRefusal}
 use Rattle.cli.specs.Sizes.{IsInRanges, RunFits, IsHuntSize}
 use Rattle.cli.proofs.Texts.{differ}
 
@@ -33,10 +33,11 @@ takes_no_image a name is replay draw (inl e) = other_name a (codes "replay") nam
 takes_no_image a name is replay draw (inr e) = other_name a (codes "draw") name is draw e
 
 needs_none : (a name : Text) → name ≡ a → bytes_eq a (codes "hunt") ≡ false → bytes_eq a (codes "explore") ≡ false → bytes_eq a (codes "shrink") ≡ false
-    → NeedsLock name → ⊥
-needs_none a name is hunt explore shrink (inl e) = other_name a (codes "hunt") name is hunt e
-needs_none a name is hunt explore shrink (inr (inl e)) = other_name a (codes "explore") name is explore e
-needs_none a name is hunt explore shrink (inr (inr e)) = other_name a (codes "shrink") name is shrink e
+    → bytes_eq a (codes "states") ≡ false → NeedsLock name → ⊥
+needs_none a name is hunt explore shrink states (inl e) = other_name a (codes "hunt") name is hunt e
+needs_none a name is hunt explore shrink states (inr (inl e)) = other_name a (codes "explore") name is explore e
+needs_none a name is hunt explore shrink states (inr (inr (inl e))) = other_name a (codes "shrink") name is shrink e
+needs_none a name is hunt explore shrink states (inr (inr (inr e))) = other_name a (codes "states") name is states e
 
 only_right : (variant : Variant) → word_of_variant variant ≡ codes "right" → variant ≡ Right
 only_right Right e = refl
@@ -78,19 +79,19 @@ variant_asked given variant h none (some, inl lacks) = lacks variant h
 variant_asked given variant h none (some, inr both) = no_both (first_of (codes "algorithm") given) none both
 
 neither : (a name : Text) (given : Given) → name ≡ a → bytes_eq a (codes "replay") ≡ false → bytes_eq a (codes "draw") ≡ false → bytes_eq a (codes "hunt") ≡ false
-    → bytes_eq a (codes "explore") ≡ false → bytes_eq a (codes "shrink") ≡ false → HasBadVariant name given → ⊥
-neither a name given is replay draw hunt explore shrink (inl bad) = takes_no_image a name is replay draw bad.0
-neither a name given is replay draw hunt explore shrink (inr bad) = needs_none a name is hunt explore shrink bad.0
+    → bytes_eq a (codes "explore") ≡ false → bytes_eq a (codes "shrink") ≡ false → bytes_eq a (codes "states") ≡ false → HasBadVariant name given → ⊥
+neither a name given is replay draw hunt explore shrink states (inl bad) = takes_no_image a name is replay draw bad.0
+neither a name given is replay draw hunt explore shrink states (inr bad) = needs_none a name is hunt explore shrink states bad.0
 
 good_variant : (name : Text) (given : Given) (command : Command) → IsCommand name given command → HasBadVariant name given → ⊥
 good_variant name given (Replay args) h (inl bad) = variant_goes given args.variant h.1.variant h.1.no_algorithm bad.1
-good_variant name given (Replay args) h (inr bad) = needs_none (codes "replay") name h.0 refl refl refl bad.0
+good_variant name given (Replay args) h (inr bad) = needs_none (codes "replay") name h.0 refl refl refl refl bad.0
 good_variant name given (ReplayAlgorithm args) h (inl bad) = alone_goes given h.1.alone bad.1
-good_variant name given (ReplayAlgorithm args) h (inr bad) = needs_none (codes "replay") name h.0 refl refl refl bad.0
+good_variant name given (ReplayAlgorithm args) h (inr bad) = needs_none (codes "replay") name h.0 refl refl refl refl bad.0
 good_variant name given (Draw args) h (inl bad) = variant_goes given args.variant h.1.variant h.1.no_algorithm bad.1
-good_variant name given (Draw args) h (inr bad) = needs_none (codes "draw") name h.0 refl refl refl bad.0
+good_variant name given (Draw args) h (inr bad) = needs_none (codes "draw") name h.0 refl refl refl refl bad.0
 good_variant name given (DrawAlgorithm args) h (inl bad) = alone_goes given h.1.alone bad.1
-good_variant name given (DrawAlgorithm args) h (inr bad) = needs_none (codes "draw") name h.0 refl refl refl bad.0
+good_variant name given (DrawAlgorithm args) h (inr bad) = needs_none (codes "draw") name h.0 refl refl refl refl bad.0
 good_variant name given (Hunt args) h (inl bad) = takes_no_image (codes "hunt") name h.0 refl refl bad.0
 good_variant name given (Hunt args) h (inr bad) = variant_asked given args.variant h.1.variant h.1.no_algorithm bad.1
 good_variant name given (HuntAlgorithm args) h (inl bad) = takes_no_image (codes "hunt") name h.0 refl refl bad.0
@@ -103,17 +104,22 @@ good_variant name given (Shrink args) h (inl bad) = takes_no_image (codes "shrin
 good_variant name given (Shrink args) h (inr bad) = variant_asked given args.variant h.1.variant h.1.no_algorithm bad.1
 good_variant name given (ShrinkAlgorithm args) h (inl bad) = takes_no_image (codes "shrink") name h.0 refl refl bad.0
 good_variant name given (ShrinkAlgorithm args) h (inr bad) = no_both (first_of (codes "variant") given) h.1.no_variant bad.1.0
-good_variant name given (Run args) h bad = neither (codes "run") name given h.0 refl refl refl refl refl bad
-good_variant name given (Judge file) h bad = neither (codes "judge") name given h.0 refl refl refl refl refl bad
-good_variant name given (Step file) h bad = neither (codes "step") name given h.0 refl refl refl refl refl bad
-good_variant name given (StepAlgorithm algorithm) h bad = neither (codes "step") name given h.0 refl refl refl refl refl bad
-good_variant name given (Explain entry) h bad = neither (codes "explain") name given h.0 refl refl refl refl refl bad
+good_variant name given (States args) h (inl bad) = takes_no_image (codes "states") name h.0 refl refl bad.0
+good_variant name given (States args) h (inr bad) = variant_asked given args.search.variant h.1.search.variant h.1.search.no_algorithm bad.1
+good_variant name given (StatesAlgorithm args) h (inl bad) = takes_no_image (codes "states") name h.0 refl refl bad.0
+good_variant name given (StatesAlgorithm args) h (inr bad) = no_both (first_of (codes "variant") given) h.1.search.no_variant bad.1.0
+good_variant name given (Run args) h bad = neither (codes "run") name given h.0 refl refl refl refl refl refl bad
+good_variant name given (Judge file) h bad = neither (codes "judge") name given h.0 refl refl refl refl refl refl bad
+good_variant name given (Step file) h bad = neither (codes "step") name given h.0 refl refl refl refl refl refl bad
+good_variant name given (StepAlgorithm args) h bad = neither (codes "step") name given h.0 refl refl refl refl refl refl bad
+good_variant name given (Explain entry) h bad = neither (codes "explain") name given h.0 refl refl refl refl refl refl bad
 
 sizeless : (a name : Text) (given : Given) → name ≡ a → bytes_eq a (codes "run") ≡ false → bytes_eq a (codes "hunt") ≡ false → bytes_eq a (codes "explore") ≡ false
-    → IsOutOfRange name given → ⊥
-sizeless a name given is run hunt explore (inl bad) = other_name a (codes "run") name is run bad.0
-sizeless a name given is run hunt explore (inr (inl bad)) = other_name a (codes "hunt") name is hunt bad.0
-sizeless a name given is run hunt explore (inr (inr bad)) = other_name a (codes "explore") name is explore bad.0
+    → bytes_eq a (codes "states") ≡ false → IsOutOfRange name given → ⊥
+sizeless a name given is run hunt explore states (inl bad) = other_name a (codes "run") name is run bad.0
+sizeless a name given is run hunt explore states (inr (inl bad)) = other_name a (codes "hunt") name is hunt bad.0
+sizeless a name given is run hunt explore states (inr (inr (inl bad))) = other_name a (codes "explore") name is explore bad.0
+sizeless a name given is run hunt explore states (inr (inr (inr bad))) = other_name a (codes "states") name is states bad.0
 
 good_hunt : (given : Given) (args : HuntArgs) → IsHunt given args → IsHuntSize args.rounds args.steps → IsBadHunt given ⊎ IsBadAlgorithmHunt given → ⊥
 good_hunt given args h sized (inl (some, inl size)) = size (subst₂ IsHuntSize h.rounds h.steps sized)
@@ -153,64 +159,80 @@ good_algorithm_search given args h (inr (of_algorithm, inr (inr starving))) = go
 good_size : (name : Text) (given : Given) (command : Command) → IsInRanges command → IsCommand name given command → IsOutOfRange name given → ⊥
 good_size name given (Run args) sized h (inl bad) = bad.1 (subst RunFits h.1 sized)
 good_size name given (Run args) sized h (inr (inl bad)) = other_name (codes "run") (codes "hunt") name h.0 refl bad.0
-good_size name given (Run args) sized h (inr (inr bad)) = other_name (codes "run") (codes "explore") name h.0 refl bad.0
+good_size name given (Run args) sized h (inr (inr (inl bad))) = other_name (codes "run") (codes "explore") name h.0 refl bad.0
+good_size name given (Run args) sized h (inr (inr (inr bad))) = other_name (codes "run") (codes "states") name h.0 refl bad.0
 good_size name given (Hunt args) sized h (inl bad) = other_name (codes "hunt") (codes "run") name h.0 refl bad.0
 good_size name given (Hunt args) sized h (inr (inl bad)) = good_hunt given args h.1 sized bad.1
-good_size name given (Hunt args) sized h (inr (inr bad)) = other_name (codes "hunt") (codes "explore") name h.0 refl bad.0
+good_size name given (Hunt args) sized h (inr (inr (inl bad))) = other_name (codes "hunt") (codes "explore") name h.0 refl bad.0
+good_size name given (Hunt args) sized h (inr (inr (inr bad))) = other_name (codes "hunt") (codes "states") name h.0 refl bad.0
 good_size name given (HuntAlgorithm args) sized h (inl bad) = other_name (codes "hunt") (codes "run") name h.0 refl bad.0
 good_size name given (HuntAlgorithm args) sized h (inr (inl bad)) = good_algorithm_hunt given args h.1 sized bad.1
-good_size name given (HuntAlgorithm args) sized h (inr (inr bad)) = other_name (codes "hunt") (codes "explore") name h.0 refl bad.0
+good_size name given (HuntAlgorithm args) sized h (inr (inr (inl bad))) = other_name (codes "hunt") (codes "explore") name h.0 refl bad.0
+good_size name given (HuntAlgorithm args) sized h (inr (inr (inr bad))) = other_name (codes "hunt") (codes "states") name h.0 refl bad.0
 good_size name given (Explore args) sized h (inl bad) = other_name (codes "explore") (codes "run") name h.0 refl bad.0
 good_size name given (Explore args) sized h (inr (inl bad)) = other_name (codes "explore") (codes "hunt") name h.0 refl bad.0
-good_size name given (Explore args) sized h (inr (inr bad)) = good_search given args h.1 bad.1
+good_size name given (Explore args) sized h (inr (inr (inl bad))) = good_search given args h.1 bad.1
+good_size name given (Explore args) sized h (inr (inr (inr bad))) = other_name (codes "explore") (codes "states") name h.0 refl bad.0
 good_size name given (ExploreAlgorithm args) sized h (inl bad) = other_name (codes "explore") (codes "run") name h.0 refl bad.0
 good_size name given (ExploreAlgorithm args) sized h (inr (inl bad)) = other_name (codes "explore") (codes "hunt") name h.0 refl bad.0
-good_size name given (ExploreAlgorithm args) sized h (inr (inr bad)) = good_algorithm_search given args h.1 bad.1
-good_size name given (Replay args) sized h bad = sizeless (codes "replay") name given h.0 refl refl refl bad
-good_size name given (ReplayAlgorithm args) sized h bad = sizeless (codes "replay") name given h.0 refl refl refl bad
-good_size name given (Judge file) sized h bad = sizeless (codes "judge") name given h.0 refl refl refl bad
-good_size name given (Draw args) sized h bad = sizeless (codes "draw") name given h.0 refl refl refl bad
-good_size name given (DrawAlgorithm args) sized h bad = sizeless (codes "draw") name given h.0 refl refl refl bad
-good_size name given (Shrink args) sized h bad = sizeless (codes "shrink") name given h.0 refl refl refl bad
-good_size name given (ShrinkAlgorithm args) sized h bad = sizeless (codes "shrink") name given h.0 refl refl refl bad
-good_size name given (Step file) sized h bad = sizeless (codes "step") name given h.0 refl refl refl bad
-good_size name given (StepAlgorithm algorithm) sized h bad = sizeless (codes "step") name given h.0 refl refl refl bad
-good_size name given (Explain entry) sized h bad = sizeless (codes "explain") name given h.0 refl refl refl bad
+good_size name given (ExploreAlgorithm args) sized h (inr (inr (inl bad))) = good_algorithm_search given args h.1 bad.1
+good_size name given (ExploreAlgorithm args) sized h (inr (inr (inr bad))) = other_name (codes "explore") (codes "states") name h.0 refl bad.0
+good_size name given (States args) sized h (inl bad) = other_name (codes "states") (codes "run") name h.0 refl bad.0
+good_size name given (States args) sized h (inr (inl bad)) = other_name (codes "states") (codes "hunt") name h.0 refl bad.0
+good_size name given (States args) sized h (inr (inr (inl bad))) = other_name (codes "states") (codes "explore") name h.0 refl bad.0
+good_size name given (States args) sized h (inr (inr (inr (is, inl bad)))) = good_search given args.search h.1.search bad
+good_size name given (States args) sized h (inr (inr (inr (is, inr bad)))) = bad.1 args.stream.tool h.1.stream.tool
+good_size name given (StatesAlgorithm args) sized h (inl bad) = other_name (codes "states") (codes "run") name h.0 refl bad.0
+good_size name given (StatesAlgorithm args) sized h (inr (inl bad)) = other_name (codes "states") (codes "hunt") name h.0 refl bad.0
+good_size name given (StatesAlgorithm args) sized h (inr (inr (inl bad))) = other_name (codes "states") (codes "explore") name h.0 refl bad.0
+good_size name given (StatesAlgorithm args) sized h (inr (inr (inr (is, inl bad)))) = good_algorithm_search given args.search h.1.search bad
+good_size name given (StatesAlgorithm args) sized h (inr (inr (inr (is, inr bad)))) = bad.1 args.stream.tool h.1.stream.tool
+good_size name given (Replay args) sized h bad = sizeless (codes "replay") name given h.0 refl refl refl refl bad
+good_size name given (ReplayAlgorithm args) sized h bad = sizeless (codes "replay") name given h.0 refl refl refl refl bad
+good_size name given (Judge file) sized h bad = sizeless (codes "judge") name given h.0 refl refl refl refl bad
+good_size name given (Draw args) sized h bad = sizeless (codes "draw") name given h.0 refl refl refl refl bad
+good_size name given (DrawAlgorithm args) sized h bad = sizeless (codes "draw") name given h.0 refl refl refl refl bad
+good_size name given (Shrink args) sized h bad = sizeless (codes "shrink") name given h.0 refl refl refl refl bad
+good_size name given (ShrinkAlgorithm args) sized h bad = sizeless (codes "shrink") name given h.0 refl refl refl refl bad
+good_size name given (Step file) sized h bad = sizeless (codes "step") name given h.0 refl refl refl refl bad
+good_size name given (StepAlgorithm args) sized h bad = sizeless (codes "step") name given h.0 refl refl refl refl bad
+good_size name given (Explain entry) sized h bad = sizeless (codes "explain") name given h.0 refl refl refl refl bad
 
 -- ---- the words
 
 not_drawn : (name : Text) (given : Given) → HasNoLock name given → TakesImage name → ⊥
 not_drawn name given (none, inl (is, lacks)) takes = takes_no_image (codes "explore") name is refl refl takes
 not_drawn name given (none, inr (inl (is, lacks))) takes = takes_no_image (codes "hunt") name is refl refl takes
-not_drawn name given (none, inr (inr (is, lacks))) takes = takes_no_image (codes "shrink") name is refl refl takes
+not_drawn name given (none, inr (inr (inl (is, lacks)))) takes = takes_no_image (codes "shrink") name is refl refl takes
+not_drawn name given (none, inr (inr (inr (is, lacks)))) takes = takes_no_image (codes "states") name is refl refl takes
 
 worded : (name : Text) (given : Given) → HasBadWords name given → HasBadVariant name given → ⊥
-worded name given (inl entry) bad = neither (codes "explain") name given entry.0 refl refl refl refl refl bad
-worded name given (inr (inl steps)) (inl bad) = alone_goes given steps.2 bad.1
-worded name given (inr (inl steps)) (inr bad) = needs_none (codes "replay") name steps.0 refl refl refl bad.0
-worded name given (inr (inr (inl page))) (inl bad) = alone_goes given page.2 bad.1
-worded name given (inr (inr (inl page))) (inr bad) = needs_none (codes "draw") name page.0 refl refl refl bad.0
-worded name given (inr (inr (inr (inl begin)))) bad = neither (codes "step") name given begin.0 refl refl refl refl refl bad
-worded name given (inr (inr (inr (inr lock)))) (inl bad) = not_drawn name given lock bad.0
-worded name given (inr (inr (inr (inr lock)))) (inr bad) = no_both (first_of (codes "variant") given) lock.0 bad.1.0
+worded name given (inl entry) bad = neither (codes "explain") name given entry.0 refl refl refl refl refl refl bad
+worded name given (inr lock) (inl bad) = not_drawn name given lock bad.0
+worded name given (inr lock) (inr bad) = no_both (first_of (codes "variant") given) lock.0 bad.1.0
 
 without_range : (name : Text) (given : Given) → HasNoLock name given → IsOutOfRange name given → ⊥
 without_range name given (none, inl (is, lacks)) (inl bad) = other_name (codes "explore") (codes "run") name is refl bad.0
 without_range name given (none, inl (is, lacks)) (inr (inl bad)) = other_name (codes "explore") (codes "hunt") name is refl bad.0
-without_range name given (none, inl (is, lacks)) (inr (inr (too, inl bad))) = no_both (first_of (codes "variant") given) none bad.0
-without_range name given (none, inl (is, lacks)) (inr (inr (too, inr bad))) = lacks bad.0
+without_range name given (none, inl (is, lacks)) (inr (inr (inl (too, inl bad)))) = no_both (first_of (codes "variant") given) none bad.0
+without_range name given (none, inl (is, lacks)) (inr (inr (inl (too, inr bad)))) = lacks bad.0
+without_range name given (none, inl (is, lacks)) (inr (inr (inr bad))) = other_name (codes "explore") (codes "states") name is refl bad.0
 without_range name given (none, inr (inl (is, lacks))) (inl bad) = other_name (codes "hunt") (codes "run") name is refl bad.0
 without_range name given (none, inr (inl (is, lacks))) (inr (inl (too, inl bad))) = no_both (first_of (codes "variant") given) none bad.0
 without_range name given (none, inr (inl (is, lacks))) (inr (inl (too, inr bad))) = no_both (first_of (codes "algorithm") given) lacks bad.0
-without_range name given (none, inr (inl (is, lacks))) (inr (inr bad)) = other_name (codes "hunt") (codes "explore") name is refl bad.0
-without_range name given (none, inr (inr (is, lacks))) bad = sizeless (codes "shrink") name given is refl refl refl bad
+without_range name given (none, inr (inl (is, lacks))) (inr (inr (inl bad))) = other_name (codes "hunt") (codes "explore") name is refl bad.0
+without_range name given (none, inr (inl (is, lacks))) (inr (inr (inr bad))) = other_name (codes "hunt") (codes "states") name is refl bad.0
+without_range name given (none, inr (inr (inl (is, lacks)))) bad = sizeless (codes "shrink") name given is refl refl refl refl bad
+without_range name given (none, inr (inr (inr (is, lacks)))) (inl bad) = other_name (codes "states") (codes "run") name is refl bad.0
+without_range name given (none, inr (inr (inr (is, lacks)))) (inr (inl bad)) = other_name (codes "states") (codes "hunt") name is refl bad.0
+without_range name given (none, inr (inr (inr (is, lacks)))) (inr (inr (inl bad))) = other_name (codes "states") (codes "explore") name is refl bad.0
+without_range name given (none, inr (inr (inr (is, lacks)))) (inr (inr (inr (too, inl (inl bad))))) = no_both (first_of (codes "variant") given) none bad.0
+without_range name given (none, inr (inr (inr (is, lacks)))) (inr (inr (inr (too, inl (inr bad))))) = lacks bad.0
+without_range name given (none, inr (inr (inr (is, lacks)))) (inr (inr (inr (too, inr bad)))) = lacks (bad.0 none)
 
 ranged : (name : Text) (given : Given) → HasBadWords name given → IsOutOfRange name given → ⊥
-ranged name given (inl entry) bad = sizeless (codes "explain") name given entry.0 refl refl refl bad
-ranged name given (inr (inl steps)) bad = sizeless (codes "replay") name given steps.0 refl refl refl bad
-ranged name given (inr (inr (inl page))) bad = sizeless (codes "draw") name given page.0 refl refl refl bad
-ranged name given (inr (inr (inr (inl begin)))) bad = sizeless (codes "step") name given begin.0 refl refl refl bad
-ranged name given (inr (inr (inr (inr lock)))) bad = without_range name given lock bad
+ranged name given (inl entry) bad = sizeless (codes "explain") name given entry.0 refl refl refl refl bad
+ranged name given (inr lock) bad = without_range name given lock bad
 
 both_of : (words : List Text) (P Q : Text → Given → Type 0) → TakesWords words P → TakesWords words Q → (name : Text) × (given : Given) × P name given × Q name given
 both_of words P Q p q = go (subcommand_of rmelab words) p.1 q.1
@@ -253,3 +275,63 @@ size_refused words (Err BadVariant) bad sized ok err =
 size_refused words (Err BadSize) bad sized ok err = inl refl
 size_refused words (Err Unreadable) bad sized ok err = absurd err
 size_refused words (Err OutOfMemory) bad sized ok err = inr refl
+
+-- ---- the search of a command
+
+-- no variant is bad where a search is
+no_image_of : (a : Text) (given : Given) → bytes_eq a (codes "replay") ≡ false → bytes_eq a (codes "draw") ≡ false → (IsBadVariant given → ⊥) → HasBadVariant a given → ⊥
+no_image_of a given replay draw good (inl bad) = takes_no_image a a refl replay draw bad.0
+no_image_of a given replay draw good (inr bad) = good bad.1
+
+pub explore_refused : (given : Given) (fault : WordsFault) → IsFaultOfSearch given fault → IsFault (codes "explore") given fault
+explore_refused given (Help text) h = absurd h
+explore_refused given (Refused text) h = inr (h.0, inl (refl, h.1))
+explore_refused given BadVariant h = inr (inr (inl refl), h)
+explore_refused given BadSize h = (no_image_of (codes "explore") given refl refl h.0, inr (inr (inl (refl, h.1))))
+explore_refused given Unreadable h = absurd h
+explore_refused given OutOfMemory h = tt
+
+pub states_refused : (given : Given) (fault : WordsFault) → IsFaultOfSearch given fault → IsFault (codes "states") given fault
+states_refused given (Help text) h = absurd h
+states_refused given (Refused text) h = inr (h.0, inr (inr (inr (refl, h.1))))
+states_refused given BadVariant h = inr (inr (inr (inr refl)), h)
+states_refused given BadSize h = (no_image_of (codes "states") given refl refl h.0, inr (inr (inr (refl, inl h.1))))
+states_refused given Unreadable h = absurd h
+states_refused given OutOfMemory h = tt
+
+-- ---- the tool of `states`
+
+-- a variant that is asked for is given
+none_asked : (variant : Variant) (o : Option Text) → word_of_variant variant ≡ unwrap_or o [] → IsNone o → ⊥
+none_asked variant (Some text) asked none = false≢true (sym none)
+none_asked Right None asked none = differ (codes "right") [] refl asked
+none_asked NoLook None asked none = differ (codes "no-look") [] refl asked
+none_asked NoTies None asked none = differ (codes "no-ties") [] refl asked
+none_asked Renumber None asked none = differ (codes "renumber") [] refl asked
+none_asked ExitOnCrash None asked none = differ (codes "exit-on-crash") [] refl asked
+none_asked CountUp None asked none = differ (codes "count-up") [] refl asked
+none_asked LastSkipped None asked none = differ (codes "last-skipped") [] refl asked
+
+pub stream_refused : (given : Given) (args : ExploreArgs) (fault : WordsFault) → IsExplore given args → IsFaultOfStream given fault
+    → IsFault (codes "states") given fault
+stream_refused given args BadSize h tool = (
+  no_image_of (codes "states") given refl refl (variant_asked given args.variant h.variant h.no_algorithm),
+  inr (inr (inr (refl, inr ((λ none. absurd (none_asked args.variant (first_of (codes "variant") given) h.variant none)), tool)))),
+)
+stream_refused given args OutOfMemory h tool = tt
+stream_refused given args (Help text) h tool = cc
+stream_refused given args (Refused text) h tool = cc
+stream_refused given args BadVariant h tool = cc
+stream_refused given args Unreadable h tool = cc
+
+pub algorithm_stream_refused : (given : Given) (args : AlgorithmExploreArgs) (fault : WordsFault) → IsAlgorithmExplore given args → IsFaultOfStream given fault
+    → IsFault (codes "states") given fault
+algorithm_stream_refused given args BadSize h tool = (
+  no_image_of (codes "states") given refl refl (λ bad. no_both (first_of (codes "variant") given) h.no_variant bad.0),
+  inr (inr (inr (refl, inr ((λ none. h.search), tool)))),
+)
+algorithm_stream_refused given args OutOfMemory h tool = tt
+algorithm_stream_refused given args (Help text) h tool = cc
+algorithm_stream_refused given args (Refused text) h tool = cc
+algorithm_stream_refused given args BadVariant h tool = cc
+algorithm_stream_refused given args Unreadable h tool = cc

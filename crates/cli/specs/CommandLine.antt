@@ -1,5 +1,5 @@
 -- The command line of `rmelab`, as `clap` reads it: the commands and the arguments of each (docs/use/command-line.md).
-use Rattle.std.specs.Prelude.{◌≡◌, List, [], ◌∷◌, true, false, Some, codes, Result, IfOk}
+use Rattle.std.specs.Prelude.{◌≡◌, List, [], ◌∷◌, true, false, Some, codes}
 use Rattle.clap.specs.Words.{App, Rule, Shape, Text, new_rule, app_of, with_subcommand}
 use Rattle.clap.specs.declared.builder.command.Command.{Command as Parser}
 use Rattle.clap.specs.declared.builder.command.Command.TheViews.{out-Command}
@@ -87,7 +87,8 @@ run = part (codes "run") (required_rule (number (codes "procs")) ∷ required_ru
 
 abbrev pub hunt : Shape
 hunt = part (codes "hunt") (
-    variant ∷ algorithm ∷ number (codes "procs") ∷ number (codes "limit") ∷ required_rule (number (codes "seed")) ∷ required_rule (number (codes "rounds"))
+    variant ∷ algorithm ∷ number (codes "procs") ∷ number (codes "limit") ∷ required_rule (number (codes "seed")) ∷ number (codes "first-round")
+    ∷ required_rule (number (codes "rounds"))
     ∷ required_rule (number (codes "steps")) ∷ flag (codes "shrink") ∷ number (codes "jobs") ∷ [])
 
 abbrev pub explore : Shape
@@ -95,6 +96,12 @@ explore = part (codes "explore") (
     variant ∷ algorithm ∷ required_rule (number (codes "procs")) ∷ option (codes "calls") ∷ number (codes "crashes")
     ∷ number (codes "moves") ∷ number (codes "states") ∷ number (codes "limit") ∷ number (codes "cap") ∷ number (codes "width")
     ∷ flag (codes "stuck") ∷ starving ∷ flag (codes "all-variables") ∷ number (codes "jobs") ∷ [])
+
+abbrev pub states : Shape
+states = part (codes "states") (
+    required_rule (word (codes "TOOL")) ∷ variant ∷ algorithm ∷ required_rule (number (codes "procs")) ∷ option (codes "calls")
+    ∷ number (codes "crashes") ∷ number (codes "limit") ∷ number (codes "cap") ∷ number (codes "width") ∷ number (codes "words")
+    ∷ number (codes "digits") ∷ number (codes "part") ∷ number (codes "parts") ∷ word (codes "FILE") ∷ [])
 
 abbrev pub judge : Shape
 judge = part (codes "judge") (flag (codes "json") ∷ word (codes "FILE") ∷ [])
@@ -120,6 +127,7 @@ shape_of_part parts.Replay = replay
 shape_of_part parts.Run = run
 shape_of_part parts.Hunt = hunt
 shape_of_part parts.Explore = explore
+shape_of_part parts.States = states
 shape_of_part parts.Judge = judge
 shape_of_part parts.Draw = draw
 shape_of_part parts.Shrink = shrink
@@ -134,7 +142,7 @@ with_subcommands app (shape ∷ shapes) = with_subcommands (with_subcommand app 
 abbrev pub rmelab : App
 rmelab = record {
   top = record head { is_leaf = false };
-  subs = replay ∷ run ∷ hunt ∷ explore ∷ judge ∷ draw ∷ shrink ∷ step ∷ explain ∷ [];
+  subs = replay ∷ run ∷ hunt ∷ explore ∷ states ∷ judge ∷ draw ∷ shrink ∷ step ∷ explain ∷ [];
 }
 
 -- the parser reads this command line, and no argument of a command is one of the others too

@@ -2,25 +2,33 @@
 use Rattle.std.specs.Prelude.{String, Option, Some, None}
 use Rattle.std.specs.declared.alloc.Global.{Global}
 use Rattle.cli.specs.declared.arguments.args.Command.{Command}
-use Rattle.cli.specs.declared.arguments.args.Command.TheVariants.{Replay, ReplayAlgorithm, HuntAlgorithm, ExploreAlgorithm, Judge, Draw, DrawAlgorithm, Shrink, ShrinkAlgorithm, Step, StepAlgorithm}
+use Rattle.cli.specs.declared.arguments.args.Command.TheVariants.{Replay, ReplayAlgorithm, HuntAlgorithm, ExploreAlgorithm, States, StatesAlgorithm, Judge, Draw, DrawAlgorithm, Shrink, ShrinkAlgorithm, Step, StepAlgorithm}
 
--- the file that is read first: an image, an algorithm, or the schedule that a session starts from
+-- the file that is read first: an image, an algorithm, or the schedule that a session on the lock starts from
 abbrev pub image_of : Command → Option (String Global)
 image_of (Replay args) = args.image
 image_of (ReplayAlgorithm args) = Some args.algorithm
 image_of (HuntAlgorithm args) = Some args.algorithm
 image_of (ExploreAlgorithm args) = Some args.algorithm
+image_of (StatesAlgorithm args) = Some args.search.algorithm
 image_of (Draw args) = args.image
 image_of (DrawAlgorithm args) = Some args.algorithm
 image_of (ShrinkAlgorithm args) = Some args.algorithm
 image_of (Step file) = file
-image_of (StepAlgorithm algorithm) = Some algorithm
+image_of (StepAlgorithm args) = Some args.algorithm
 image_of command = None
+
+-- the file that is read next: the schedule that a session on an algorithm starts from
+abbrev pub start_of : Command → Option (String Global)
+start_of (StepAlgorithm args) = args.file
+start_of command = None
 
 -- the text that is read; without a file, standard input
 abbrev pub input_of : Command → Option (String Global)
 input_of (Replay args) = args.file
 input_of (ReplayAlgorithm args) = args.file
+input_of (States args) = args.stream.file
+input_of (StatesAlgorithm args) = args.stream.file
 input_of (Judge args) = args.file
 input_of (Draw args) = args.file
 input_of (DrawAlgorithm args) = args.file

@@ -1,5 +1,5 @@
 -- What is given to a command: a row for each argument that has values, as `clap` reads the words.
-use Rattle.std.specs.Prelude.{◌≡◌, ◌==◌, ℕ, Bool, true, false, List, [], ◌∷◌, Option, unwrap_or, option_map, codes, if◌then◌else◌}
+use Rattle.std.specs.Prelude.{◌≡◌, ◌==◌, ℕ, Bool, true, false, List, [], ◌∷◌, Option, Some, unwrap_or, option_map, codes, if◌then◌else◌}
 use Rattle.std.specs.List.{join_by, list_all, list_any, slice_split}
 use Rattle.std.specs.Option.{option_map_or}
 use Rattle.std.specs.Str.{bytes_eq}
@@ -7,12 +7,14 @@ use Rattle.std.specs.Str.Parse.{digits_value, without_leading_plus}
 use Rattle.clap.specs.ValueTests.{is_unsigned_in}
 use Rattle.clap.specs.Words.{Row, Text, first_of, one_of, all_of, found_of, rows_of}
 use Rattle.clap.specs.declared.parser.matches.ArgMatches.{ArgMatches}
-use Rattle.crashlab.specs.declared.variant.Variant.{Variant}
-use Rattle.crashlab.specs.declared.variant.Variant.TheVariants.{Right, NoLook, NoTies, Renumber, ExitOnCrash, CountUp, LastSkipped}
+use Rattle.crashlab.specs.declared.variants.variant.Variant.{Variant}
+use Rattle.crashlab.specs.declared.variants.variant.Variant.TheVariants.{Right, NoLook, NoTies, Renumber, ExitOnCrash, CountUp, LastSkipped}
 use Rattle.cli.specs.declared.arguments.args.Alphabet.{Alphabet}
 use Rattle.cli.specs.declared.arguments.args.AlgorithmCalls.{AlgorithmCalls}
 use Rattle.cli.specs.declared.arguments.args.Cycles.{Cycles}
 use Rattle.cli.specs.declared.arguments.args.Cycles.TheVariants.{Nobody, Any}
+use Rattle.cli.specs.declared.arguments.args.StatesTool.{StatesTool}
+use Rattle.cli.specs.declared.arguments.args.StatesTool.TheVariants.{First, Expand, Lead, Check, Walk}
 
 abbrev pub Given : Type 0
 Given = List Row
@@ -60,6 +62,21 @@ AsksForCycles given cycles = option_map word_of_cycles cycles ≡ first_of (code
 -- there are no such cycles
 abbrev pub AsksForNoCycles : Given → Type 0
 AsksForNoCycles given = (cycles : Option Cycles) → AsksForCycles given cycles → ⊥
+
+abbrev pub word_of_tool : StatesTool → Text
+word_of_tool First = codes "first"
+word_of_tool Expand = codes "expand"
+word_of_tool Lead = codes "lead"
+word_of_tool Check = codes "check"
+word_of_tool Walk = codes "walk"
+
+-- the tool is the one that is asked for
+abbrev pub AsksForTool : Given → StatesTool → Type 0
+AsksForTool given tool = Some (word_of_tool tool) ≡ first_of (codes "TOOL") given
+
+-- there is no such tool
+abbrev pub AsksForNoTool : Given → Type 0
+AsksForNoTool given = (tool : StatesTool) → AsksForTool given tool → ⊥
 
 -- the names of a list that has commas between them
 abbrev pub names_in : Text → List Text

@@ -7,10 +7,10 @@ use Rattle.std.specs.declared.alloc.Global.{Global}
 use Rattle.clap.specs.Words.{Text, first_of, subcommand_of, fault_of, IsAmong}
 use Rattle.clap.specs.declared.error.kind.ErrorKind.{ErrorKind}
 use Rattle.clap.specs.declared.error.kind.ErrorKind.TheVariants as kinds
-use Rattle.crashlab.specs.declared.variant.Variant.{Variant}
-use Rattle.crashlab.specs.declared.variant.Variant.TheVariants.{Right}
+use Rattle.crashlab.specs.declared.variants.variant.Variant.{Variant}
+use Rattle.crashlab.specs.declared.variants.variant.Variant.TheVariants.{Right}
 use Rattle.cli.specs.declared.arguments.args.Command.{Command}
-use Rattle.cli.specs.declared.arguments.args.Command.TheVariants.{Replay, ReplayAlgorithm, Run, Hunt, HuntAlgorithm, Explore, ExploreAlgorithm, Judge, Draw, DrawAlgorithm, Shrink, ShrinkAlgorithm, Step, StepAlgorithm, Explain}
+use Rattle.cli.specs.declared.arguments.args.Command.TheVariants.{Replay, ReplayAlgorithm, Run, Hunt, HuntAlgorithm, Explore, ExploreAlgorithm, States, StatesAlgorithm, Judge, Draw, DrawAlgorithm, Shrink, ShrinkAlgorithm, Step, StepAlgorithm, Explain}
 use Rattle.cli.specs.declared.arguments.args.ReplayArgs.{ReplayArgs}
 use Rattle.cli.specs.declared.arguments.args.AlgorithmReplayArgs.{AlgorithmReplayArgs}
 use Rattle.cli.specs.declared.arguments.args.RunArgs.{RunArgs}
@@ -18,16 +18,20 @@ use Rattle.cli.specs.declared.arguments.args.HuntArgs.{HuntArgs}
 use Rattle.cli.specs.declared.arguments.args.AlgorithmHuntArgs.{AlgorithmHuntArgs}
 use Rattle.cli.specs.declared.arguments.args.ExploreArgs.{ExploreArgs}
 use Rattle.cli.specs.declared.arguments.args.AlgorithmExploreArgs.{AlgorithmExploreArgs}
+use Rattle.cli.specs.declared.arguments.args.StreamArgs.{StreamArgs}
+use Rattle.cli.specs.declared.arguments.args.StatesArgs.{StatesArgs}
+use Rattle.cli.specs.declared.arguments.args.AlgorithmStatesArgs.{AlgorithmStatesArgs}
 use Rattle.cli.specs.declared.arguments.args.DrawArgs.{DrawArgs}
 use Rattle.cli.specs.declared.arguments.args.AlgorithmDrawArgs.{AlgorithmDrawArgs}
 use Rattle.cli.specs.declared.arguments.args.JudgeArgs.{JudgeArgs}
 use Rattle.cli.specs.declared.arguments.args.ShrinkArgs.{ShrinkArgs}
 use Rattle.cli.specs.declared.arguments.args.AlgorithmShrinkArgs.{AlgorithmShrinkArgs}
+use Rattle.cli.specs.declared.arguments.args.AlgorithmStepArgs.{AlgorithmStepArgs}
 use Rattle.cli.specs.declared.arguments.words.WordsFault.{WordsFault}
 use Rattle.cli.specs.declared.arguments.words.WordsFault.TheVariants.{Help, Refused, BadVariant, BadSize, Unreadable, OutOfMemory}
 use Rattle.cli.specs.declared.explain.dictionary_entry.DictionaryEntry.{DictionaryEntry}
 use Rattle.cli.specs.CommandLine.{rmelab}
-use Rattle.cli.specs.Given.{Given, AsksFor, AsksForNone, is_set, number_or, calls_of, alphabet_of, is_call, algorithm_calls_in, are_algorithm_calls, entry_named, AsksForCycles, AsksForNoCycles}
+use Rattle.cli.specs.Given.{Given, AsksFor, AsksForNone, is_set, number_or, calls_of, alphabet_of, is_call, algorithm_calls_in, are_algorithm_calls, entry_named, AsksForCycles, AsksForNoCycles, AsksForTool, AsksForNoTool}
 use Rattle.cli.specs.Names.{name_of}
 use Rattle.cli.specs.Sizes.{RunFits, IsHuntSize}
 
@@ -54,11 +58,10 @@ pub record IsAlone (given : Given) : Type 0 where
 
 pub record IsAlgorithmReplay (given : Given) (args : AlgorithmReplayArgs) : Type 0 where
   pub algorithm : Some (string_bytes args.algorithm) ≡ first_of (codes "algorithm") given
+  pub json : args.json ≡ is_set (codes "json") given
+  pub each : args.each ≡ is_set (codes "each") given
   pub file : option_map string_bytes args.file ≡ first_of (codes "FILE") given
   pub alone : IsAlone given
-  -- it prints the report alone
-  pub no_json : is_set (codes "json") given ≡ false
-  pub no_each : is_set (codes "each") given ≡ false
 
 abbrev pub run_of : Given → RunArgs
 run_of given = record {
@@ -80,6 +83,7 @@ steps_of given = number_or 0 (codes "steps") given
 pub record IsHunt (given : Given) (args : HuntArgs) : Type 0 where
   pub variant : AsksFor [] given args.variant
   pub seed : args.seed ≡ number_or 0 (codes "seed") given
+  pub first_round : args.first_round ≡ number_or 0 (codes "first-round") given
   pub rounds : args.rounds ≡ rounds_of given
   pub steps : args.steps ≡ steps_of given
   pub shrink : args.shrink ≡ is_set (codes "shrink") given
@@ -89,16 +93,17 @@ pub record IsHunt (given : Given) (args : HuntArgs) : Type 0 where
   pub no_procs : IsNone (first_of (codes "procs") given)
   pub no_limit : IsNone (first_of (codes "limit") given)
 
--- it is hunted by one thread, however many are asked for
 pub record IsAlgorithmHunt (given : Given) (args : AlgorithmHuntArgs) : Type 0 where
   pub algorithm : Some (string_bytes args.algorithm) ≡ first_of (codes "algorithm") given
   pub no_variant : IsNone (first_of (codes "variant") given)
   pub procs : args.procs ≡ number_or 2 (codes "procs") given
   pub limit : args.limit ≡ number_or 1000000 (codes "limit") given
   pub seed : args.seed ≡ number_or 0 (codes "seed") given
+  pub first_round : args.first_round ≡ number_or 0 (codes "first-round") given
   pub rounds : args.rounds ≡ rounds_of given
   pub steps : args.steps ≡ steps_of given
   pub shrink : args.shrink ≡ is_set (codes "shrink") given
+  pub jobs : args.jobs ≡ number_or 0 (codes "jobs") given
 
 pub record IsExplore (given : Given) (args : ExploreArgs) : Type 0 where
   pub variant : AsksFor [] given args.variant
@@ -127,7 +132,6 @@ pub record IsAlgorithmSearch (given : Given) : Type 0 where
   pub no_cap : IsNone (first_of (codes "cap") given)
   pub no_width : IsNone (first_of (codes "width") given)
 
--- it is searched by one thread, however many are asked for
 pub record IsAlgorithmExplore (given : Given) (args : AlgorithmExploreArgs) : Type 0 where
   pub algorithm : Some (string_bytes args.algorithm) ≡ first_of (codes "algorithm") given
   pub no_variant : IsNone (first_of (codes "variant") given)
@@ -140,10 +144,29 @@ pub record IsAlgorithmExplore (given : Given) (args : AlgorithmExploreArgs) : Ty
   pub states : args.states ≡ number_or 10000000 (codes "states") given
   pub limit : args.limit ≡ number_or 4 (codes "limit") given
   pub stuck : args.stuck ≡ is_set (codes "stuck") given
+  pub jobs : args.jobs ≡ number_or 0 (codes "jobs") given
   pub starving : AsksForCycles given args.starving
   -- a search for stuck states or for starvation has no bound on moves
   pub unbounded : args.stuck ≡ true → IsNone (first_of (codes "moves") given)
   pub no_bound : IsSome args.starving → IsNone (first_of (codes "moves") given)
+
+-- what is done with lines of states, and their form
+pub record IsStream (given : Given) (args : StreamArgs) : Type 0 where
+  pub tool : AsksForTool given args.tool
+  pub words : args.words ≡ number_or 0 (codes "words") given
+  pub digits : args.digits ≡ number_or 2 (codes "digits") given
+  pub part : args.part ≡ number_or 0 (codes "part") given
+  pub parts : args.parts ≡ number_or 1 (codes "parts") given
+  pub file : option_map string_bytes args.file ≡ first_of (codes "FILE") given
+
+-- the states are those of the search that `explore` makes of the same options
+pub record IsStates (given : Given) (args : StatesArgs) : Type 0 where
+  pub search : IsExplore given args.search
+  pub stream : IsStream given args.stream
+
+pub record IsAlgorithmStates (given : Given) (args : AlgorithmStatesArgs) : Type 0 where
+  pub search : IsAlgorithmExplore given args.search
+  pub stream : IsStream given args.stream
 
 pub record IsJudge (given : Given) (args : JudgeArgs) : Type 0 where
   pub json : args.json ≡ is_set (codes "json") given
@@ -159,10 +182,10 @@ pub record IsDraw (given : Given) (args : DrawArgs) : Type 0 where
 
 pub record IsAlgorithmDraw (given : Given) (args : AlgorithmDrawArgs) : Type 0 where
   pub algorithm : Some (string_bytes args.algorithm) ≡ first_of (codes "algorithm") given
+  pub html : args.html ≡ is_set (codes "html") given
   pub svg : args.svg ≡ is_set (codes "svg") given
   pub file : option_map string_bytes args.file ≡ first_of (codes "FILE") given
   pub alone : IsAlone given
-  pub no_page : is_set (codes "html") given ≡ false
 
 pub record IsShrink (given : Given) (args : ShrinkArgs) : Type 0 where
   pub variant : AsksFor [] given args.variant
@@ -174,6 +197,10 @@ pub record IsAlgorithmShrink (given : Given) (args : AlgorithmShrinkArgs) : Type
   pub no_variant : IsNone (first_of (codes "variant") given)
   pub file : option_map string_bytes args.file ≡ first_of (codes "FILE") given
 
+pub record IsAlgorithmStep (given : Given) (args : AlgorithmStepArgs) : Type 0 where
+  pub algorithm : Some (string_bytes args.algorithm) ≡ first_of (codes "algorithm") given
+  pub file : option_map string_bytes args.file ≡ first_of (codes "FILE") given
+
 -- the command has this name, and its arguments are those that are given
 abbrev pub IsCommand : Text → Given → Command → Type 0
 IsCommand name given (Replay args) = (name ≡ codes "replay") × IsReplay given args
@@ -183,11 +210,12 @@ IsCommand name given (Hunt args) = (name ≡ codes "hunt") × IsHunt given args
 IsCommand name given (HuntAlgorithm args) = (name ≡ codes "hunt") × IsAlgorithmHunt given args
 IsCommand name given (Explore args) = (name ≡ codes "explore") × IsExplore given args
 IsCommand name given (ExploreAlgorithm args) = (name ≡ codes "explore") × IsAlgorithmExplore given args
+IsCommand name given (States args) = (name ≡ codes "states") × IsStates given args
+IsCommand name given (StatesAlgorithm args) = (name ≡ codes "states") × IsAlgorithmStates given args
 IsCommand name given (Judge args) = (name ≡ codes "judge") × IsJudge given args
 IsCommand name given (Step file) =
     (name ≡ codes "step") × (option_map string_bytes file ≡ first_of (codes "FILE") given) × IsNone (first_of (codes "algorithm") given)
-IsCommand name given (StepAlgorithm algorithm) =
-    (name ≡ codes "step") × (Some (string_bytes algorithm) ≡ first_of (codes "algorithm") given) × IsNone (first_of (codes "FILE") given)
+IsCommand name given (StepAlgorithm args) = (name ≡ codes "step") × IsAlgorithmStep given args
 IsCommand name given (Draw args) = (name ≡ codes "draw") × IsDraw given args
 IsCommand name given (DrawAlgorithm args) = (name ≡ codes "draw") × IsAlgorithmDraw given args
 IsCommand name given (Shrink args) = (name ≡ codes "shrink") × IsShrink given args
@@ -215,7 +243,7 @@ TakesImage name = (name ≡ codes "replay") ⊎ (name ≡ codes "draw")
 
 -- the command wants a variant or an algorithm
 abbrev pub NeedsLock : Text → Type 0
-NeedsLock name = (name ≡ codes "hunt") ⊎ ((name ≡ codes "explore") ⊎ (name ≡ codes "shrink"))
+NeedsLock name = (name ≡ codes "hunt") ⊎ ((name ≡ codes "explore") ⊎ ((name ≡ codes "shrink") ⊎ (name ≡ codes "states")))
 
 abbrev pub HasBadVariant : Text → Given → Type 0
 HasBadVariant name given =
@@ -239,6 +267,10 @@ abbrev pub IsBadAlgorithmSearch : Given → Type 0
 IsBadAlgorithmSearch given =
     IsAlgorithmSearch given × ((are_algorithm_calls given ≡ false) ⊎ (IsStuckWithin given ⊎ IsBadStarving given))
 
+-- there is something to search, and no such tool
+abbrev pub IsBadTool : Given → Type 0
+IsBadTool given = (IsNone (first_of (codes "variant") given) → IsAlgorithmSearch given) × AsksForNoTool given
+
 -- a size of its worlds is given to a hunt
 abbrev pub HasWorldSize : Given → Type 0
 HasWorldSize given = IsSome (first_of (codes "procs") given) ⊎ IsSome (first_of (codes "limit") given)
@@ -251,12 +283,13 @@ IsBadHunt given = IsSome (first_of (codes "variant") given) × ((IsHuntSize (rou
 abbrev pub IsBadAlgorithmHunt : Given → Type 0
 IsBadAlgorithmHunt given = IsSome (first_of (codes "algorithm") given) × (IsHuntSize (rounds_of given) (steps_of given) → ⊥)
 
--- a number is outside its range, or a hunt or a search is bad
+-- a number is outside its range, or a hunt, a search or a tool is bad
 abbrev pub IsOutOfRange : Text → Given → Type 0
 IsOutOfRange name given =
     ((name ≡ codes "run") × (RunFits (run_of given) → ⊥))
     ⊎ (((name ≡ codes "hunt") × (IsBadHunt given ⊎ IsBadAlgorithmHunt given))
-    ⊎ ((name ≡ codes "explore") × (IsBadSearch given ⊎ IsBadAlgorithmSearch given)))
+    ⊎ (((name ≡ codes "explore") × (IsBadSearch given ⊎ IsBadAlgorithmSearch given))
+    ⊎ ((name ≡ codes "states") × ((IsBadSearch given ⊎ IsBadAlgorithmSearch given) ⊎ IsBadTool given))))
 
 -- the variant is good, and a size is bad
 abbrev pub HasBadSize : Text → Given → Type 0
@@ -267,30 +300,17 @@ abbrev pub HasNoEntry : Text → Given → Type 0
 HasNoEntry name given = (name ≡ codes "explain") × IsSome (entry_named given)
     × ((entry : DictionaryEntry) → Some (name_of entry) ≢ entry_named given)
 
--- of a run of an algorithm each step is asked for, or JSON
-abbrev pub HasNoSteps : Text → Given → Type 0
-HasNoSteps name given = (name ≡ codes "replay") × IsSome (first_of (codes "algorithm") given) × IsAlone given
-    × ((is_set (codes "json") given ≡ true) ⊎ (is_set (codes "each") given ≡ true))
-
--- of a run of an algorithm a page is asked for
-abbrev pub HasNoPage : Text → Given → Type 0
-HasNoPage name given = (name ≡ codes "draw") × IsSome (first_of (codes "algorithm") given) × IsAlone given × (is_set (codes "html") given ≡ true)
-
--- a session on an algorithm is given a schedule to begin with
-abbrev pub HasNoBeginning : Text → Given → Type 0
-HasNoBeginning name given = (name ≡ codes "step") × IsSome (first_of (codes "algorithm") given) × IsSome (first_of (codes "FILE") given)
-
 -- there is neither a variant nor an algorithm, or an algorithm is given an option that the command does not have for one
 abbrev pub HasNoLock : Text → Given → Type 0
 HasNoLock name given = IsNone (first_of (codes "variant") given)
     × (((name ≡ codes "explore") × (IsAlgorithmSearch given → ⊥))
     ⊎ (((name ≡ codes "hunt") × IsNone (first_of (codes "algorithm") given))
-    ⊎ ((name ≡ codes "shrink") × IsNone (first_of (codes "algorithm") given))))
+    ⊎ (((name ≡ codes "shrink") × IsNone (first_of (codes "algorithm") given))
+    ⊎ ((name ≡ codes "states") × (IsAlgorithmSearch given → ⊥)))))
 
 -- words that `clap` takes are refused as it refuses words
 abbrev pub HasBadWords : Text → Given → Type 0
-HasBadWords name given =
-    HasNoEntry name given ⊎ (HasNoSteps name given ⊎ (HasNoPage name given ⊎ (HasNoBeginning name given ⊎ HasNoLock name given)))
+HasBadWords name given = HasNoEntry name given ⊎ HasNoLock name given
 
 -- out of memory comes at any time
 abbrev pub IsFault : Text → Given → WordsFault → Type 0
@@ -349,6 +369,20 @@ IsFaultOfCalls given fault = fault ≡ OutOfMemory
 abbrev pub IsFaultOfAlgorithmCalls : Given → WordsFault → Type 0
 IsFaultOfAlgorithmCalls given BadSize = are_algorithm_calls given ≡ false
 IsFaultOfAlgorithmCalls given fault = fault ≡ OutOfMemory
+
+-- the search that is asked for is refused
+abbrev pub IsFaultOfSearch : Given → WordsFault → Type 0
+IsFaultOfSearch given (Help text) = ⊥
+IsFaultOfSearch given (Refused text) = IsNone (first_of (codes "variant") given) × (IsAlgorithmSearch given → ⊥)
+IsFaultOfSearch given BadVariant = IsBadVariant given
+IsFaultOfSearch given BadSize = (IsBadVariant given → ⊥) × (IsBadSearch given ⊎ IsBadAlgorithmSearch given)
+IsFaultOfSearch given Unreadable = ⊥
+IsFaultOfSearch given OutOfMemory = Unit {0}
+
+-- what is to be done with lines of states is refused
+abbrev pub IsFaultOfStream : Given → WordsFault → Type 0
+IsFaultOfStream given BadSize = AsksForNoTool given
+IsFaultOfStream given fault = fault ≡ OutOfMemory
 
 -- an error of `clap` of this kind is answered
 abbrev pub IsAnsweredBy : ErrorKind → WordsFault → Type 0

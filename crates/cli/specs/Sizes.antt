@@ -1,7 +1,7 @@
 -- The ranges of the program's numbers (Limits of docs/theory/model.md).
-use Rattle.std.specs.Prelude.{◌≤◌, ℕ}
+use Rattle.std.specs.Prelude.{◌≤◌, ◌+◌, ℕ}
 use Rattle.cli.specs.declared.arguments.args.Command.{Command}
-use Rattle.cli.specs.declared.arguments.args.Command.TheVariants.{Replay, ReplayAlgorithm, Run, Hunt, HuntAlgorithm, Explore, ExploreAlgorithm, Judge, Draw, DrawAlgorithm, Shrink, ShrinkAlgorithm, Step, StepAlgorithm, Explain}
+use Rattle.cli.specs.declared.arguments.args.Command.TheVariants.{Replay, ReplayAlgorithm, Run, Hunt, HuntAlgorithm, Explore, ExploreAlgorithm, States, StatesAlgorithm, Judge, Draw, DrawAlgorithm, Shrink, ShrinkAlgorithm, Step, StepAlgorithm, Explain}
 use Rattle.cli.specs.declared.arguments.args.HuntArgs.{HuntArgs}
 use Rattle.cli.specs.declared.arguments.args.RunArgs.{RunArgs}
 
@@ -9,9 +9,13 @@ use Rattle.cli.specs.declared.arguments.args.RunArgs.{RunArgs}
 abbrev pub IsHuntSize : ℕ → ℕ → Type 0
 IsHuntSize rounds steps = ((1 ≤ rounds) × (rounds ≤ 10000)) × (1 ≤ steps) × (steps ≤ 10000)
 
+-- the same of a hunt that begins with this round: the number of its last round is in its range too
+abbrev pub IsHuntPart : ℕ → ℕ → ℕ → Type 0
+IsHuntPart first rounds steps = IsHuntSize rounds steps × (first + rounds ≤ 10000)
+
 -- the numbers of a hunt are in their ranges
 abbrev pub HuntFits : HuntArgs → Type 0
-HuntFits args = IsHuntSize args.rounds args.steps
+HuntFits args = IsHuntPart args.first_round args.rounds args.steps
 
 -- the processes, the messages of each, the crashes in 1,000 askings, and the words of a message
 abbrev pub RunFits : RunArgs → Type 0
@@ -22,13 +26,15 @@ abbrev pub IsInRanges : Command → Type 0
 IsInRanges (Replay args) = Unit {0}
 IsInRanges (ReplayAlgorithm args) = Unit {0}
 IsInRanges (Run args) = RunFits args
-IsInRanges (Hunt args) = HuntFits args
+IsInRanges (Hunt args) = IsHuntSize args.rounds args.steps
 IsInRanges (HuntAlgorithm args) = IsHuntSize args.rounds args.steps
 IsInRanges (Explore args) = Unit {0}
 IsInRanges (ExploreAlgorithm args) = Unit {0}
+IsInRanges (States args) = Unit {0}
+IsInRanges (StatesAlgorithm args) = Unit {0}
 IsInRanges (Judge file) = Unit {0}
 IsInRanges (Step file) = Unit {0}
-IsInRanges (StepAlgorithm algorithm) = Unit {0}
+IsInRanges (StepAlgorithm args) = Unit {0}
 IsInRanges (Draw args) = Unit {0}
 IsInRanges (DrawAlgorithm args) = Unit {0}
 IsInRanges (Shrink args) = Unit {0}

@@ -8,5 +8,6 @@ mod hunt_words;
 mod parser;
 mod replay_words;
 mod shrink_words;
+mod states_words;
 mod step_words;
 pub mod words;

@@ -1,5 +1,5 @@
 -- How a hunt on an algorithm ends that has found nothing.
-use Rattle.std.proofs.Common.{◌≡◌, ◌⊎◌, ◌↔◌, ℕ, ◌<◌, ◌≤◌, Bool, true, false, Option, Some, None, IfSome, Result, Err, IsErrOf, inl, inr, refl, sym, subst, arith}
+use Rattle.std.proofs.Common.{◌≡◌, ◌⊎◌, ◌↔◌, ℕ, ◌+◌, ◌<◌, ◌≤◌, Bool, true, false, Option, Some, None, IfSome, Result, Err, IsErrOf, inl, inr, refl, sym, subst, arith}
 use Rattle.algorithms.specs.Worlds.{new_refusal}
 use Rattle.algorithms.specs.declared.algorithm.Algorithm.{Algorithm}
 use Rattle.algorithms.specs.declared.refusal.AlgorithmRefusal.{AlgorithmRefusal}
@@ -8,17 +8,16 @@ use Rattle.algorithm_explorer.specs.declared.hunt_fault.AlgorithmHuntFault.TheVa
 use Rattle.algorithm_explorer.specs.Hunted.{IsFoundByHunt}
 use Rattle.schedule.specs.Schedules.{Scheduled}
 use Rattle.schedule.specs.Tapes.{Tape}
-use Rattle.cli.specs.Sizes.{IsHuntSize}
 use Rattle.cli.specs.declared.arguments.args.AlgorithmHuntArgs.{AlgorithmHuntArgs}
-use Rattle.commands.specs.AlgorithmHunts.{HuntsAlgorithm, IsWrittenFor, fault_of_hunt}
+use Rattle.commands.specs.AlgorithmHunts.{AlgorithmHuntFits, HuntsAlgorithm, IsWrittenFor, fault_of_hunt}
 
-no_rounds : (rounds steps : ℕ) → (rounds ≡ 0) ⊎ (10000 < rounds) → IsHuntSize rounds steps → ⊥
-no_rounds rounds steps (inl none) fits = omega (arith, none, fits.0.0)
-no_rounds rounds steps (inr more) fits = omega (arith, more, fits.0.1)
+no_rounds : (args : AlgorithmHuntArgs) → (args.rounds ≡ 0) ⊎ (10000 < args.first_round + args.rounds) → AlgorithmHuntFits args → ⊥
+no_rounds args (inl none) fits = omega (arith, none, fits.0.0.0)
+no_rounds args (inr more) fits = omega (arith, more, fits.1)
 
-no_steps : (rounds steps : ℕ) → (steps ≡ 0) ⊎ (10000 < steps) → IsHuntSize rounds steps → ⊥
-no_steps rounds steps (inl none) fits = omega (arith, none, fits.1)
-no_steps rounds steps (inr more) fits = omega (arith, more, fits.2)
+no_steps : (args : AlgorithmHuntArgs) → (args.steps ≡ 0) ⊎ (10000 < args.steps) → AlgorithmHuntFits args → ⊥
+no_steps args (inl none) fits = omega (arith, none, fits.0.1)
+no_steps args (inr more) fits = omega (arith, more, fits.0.2)
 
 no_world : (o : Option AlgorithmRefusal) (e : AlgorithmRefusal) → o ≡ Some e → o ≡ None → ⊥
 no_world None e some none = cc
@@ -26,14 +25,14 @@ no_world (Some x) e some none = cc
 
 -- the hunt has found nothing, and why not
 pub not_hunted : {A : Type 0} (a : Algorithm) (args : AlgorithmHuntArgs) (now : Tape) (found : Result A AlgorithmHuntFault) (fault : AlgorithmHuntFault)
-    → found ≡ Err fault → (IsErrOf found BadRounds ↔ ((args.rounds ≡ 0) ⊎ (10000 < args.rounds)))
-    → (IsErrOf found BadSteps ↔ ((0 < args.rounds) × (args.rounds ≤ 10000) × ((args.steps ≡ 0) ⊎ (10000 < args.steps))))
+    → found ≡ Err fault → (IsErrOf found BadRounds ↔ ((args.rounds ≡ 0) ⊎ (10000 < args.first_round + args.rounds)))
+    → (IsErrOf found BadSteps ↔ ((0 < args.rounds) × (args.first_round + args.rounds ≤ 10000) × ((args.steps ≡ 0) ⊎ (10000 < args.steps))))
     → ((e : AlgorithmRefusal) → IsErrOf found (Refused e) → new_refusal a args.procs args.limit ≡ Some e)
     → HuntsAlgorithm a args now now (Err (fault_of_hunt fault))
 not_hunted a args now found BadRounds is rounds steps refused =
-    inr (inr (inl (refl, record { sizes = inl (no_rounds args.rounds args.steps (rounds.0 is)); silent = record { taken = refl; fine = refl } })))
+    inr (inr (inl (refl, record { sizes = inl (no_rounds args (rounds.0 is)); silent = record { taken = refl; fine = refl } })))
 not_hunted a args now found BadSteps is rounds steps refused =
-    inr (inr (inl (refl, record { sizes = inl (no_steps args.rounds args.steps (steps.0 is).2); silent = record { taken = refl; fine = refl } })))
+    inr (inr (inl (refl, record { sizes = inl (no_steps args (steps.0 is).2); silent = record { taken = refl; fine = refl } })))
 not_hunted a args now found (Refused e) is rounds steps refused =
     inr (inr (inl (refl, record { sizes = inr (no_world (new_refusal a args.procs args.limit) e (refused e is)); silent = record { taken = refl; fine = refl } })))
 not_hunted a args now found OutOfMemory is rounds steps refused = inr (inr (inr (refl, record { taken = refl; fine = refl })))

@@ -1,12 +1,23 @@
 -- A session on an algorithm whose text is at fault, or was read.
-use Rattle.std.proofs.Common.{◌⊎◌, List, ℕ, Option, Result, Err, refl, inl, inr}
+use Rattle.std.proofs.Common.{◌≡◌, ◌⊎◌, ◌∙◌, List, [], ℕ, Option, Some, None, Result, Ok, Err, IfOk, ap, refl, inl, inr}
 use Rattle.algorithms.specs.Ranked.{LocalLinesEnd, AccessesLeadOn}
 use Rattle.algorithms.specs.declared.algorithm.Algorithm.{Algorithm}
+use Rattle.algorithms.specs.declared.refusal.AlgorithmRefusal.{AlgorithmRefusal}
+use Rattle.algorithm_lab.specs.Monitors.{MonitorState, first_monitor}
+use Rattle.algorithm_lab.specs.Replays.{run_unless, world_fault}
+use Rattle.algorithm_lab.specs.Runs.{run_on}
+use Rattle.algorithm_lab.specs.declared.run_refusal.RunRefusal.TheVariants.{Refused}
 use Rattle.algorithm_texts.specs.Programs.{SpellsAlgorithm}
+use Rattle.diagram.proofs.AlgorithmSessions.{begins_played}
+use Rattle.diagram.specs.AlgorithmSimulations.{algorithm_semantics, algorithm_session}
+use Rattle.diagram.specs.Sessions.{at_schedule}
+use Rattle.schedule.specs.Schedules.{Scheduled}
+use Rattle.schedule.specs.declared.lines.line.Line.{Line}
 use Rattle.schedule.specs.Tapes.{Reading, Tape}
 use Rattle.commands.specs.declared.schedules.ending.Ending.{Ending}
 use Rattle.commands.specs.declared.schedules.fault.CommandFault.{CommandFault}
-use Rattle.commands.specs.AlgorithmSessions.{AlgorithmSessionEnds, RefusesText}
+use Rattle.commands.specs.AlgorithmReplays.{fault_of_run}
+use Rattle.commands.specs.AlgorithmSessions.{AlgorithmSessionEnds, IsFaultOfRun, RefusesText}
 use Rattle.commands.specs.AlgorithmTexts.{HoldsOfAlgorithm, IsAlgorithmFault, text_of}
 use Rattle.commands.specs.Devices.{Devices, devices}
 use Rattle.commands.specs.Folders.{Used}
@@ -17,7 +28,20 @@ pub no_session : {B : Type 0} (file : Option (List ℕ)) (old : Reading) (used :
 no_session file old used tape fault is = inl ((record { taken = refl; fine = refl }, (fault, refl, is)), refl, refl)
 
 -- it was read
-pub session_held : (file : Option (List ℕ)) (before now : Devices) (end : Result Ending CommandFault) (a : Algorithm)
-    → SpellsAlgorithm (text_of file) a → LocalLinesEnd a → AccessesLeadOn a → AlgorithmSessionEnds a before now end
-    → RefusesText file before now end ⊎ HoldsOfAlgorithm file (λ (algorithm : Algorithm). AlgorithmSessionEnds algorithm before now end)
-session_held file before now end a spells ends leads holds = inr (record { algorithm = a; spells = spells; ends = ends; leads = leads; holds = holds })
+pub session_held : (file start : Option (List ℕ)) (before now : Devices) (end : Result Ending CommandFault) (a : Algorithm)
+    → SpellsAlgorithm (text_of file) a → LocalLinesEnd a → AccessesLeadOn a → AlgorithmSessionEnds a start before now end
+    → RefusesText file before now end ⊎ HoldsOfAlgorithm file (λ (algorithm : Algorithm). AlgorithmSessionEnds algorithm start before now end)
+session_held file start before now end a spells ends leads holds = inr (record { algorithm = a; spells = spells; ends = ends; leads = leads; holds = holds })
+
+-- there is no world of the schedule's sizes
+pub no_world : (r : Option AlgorithmRefusal) (m : MonitorState) (lines : List Line) (fault : CommandFault) → fault ≡ fault_of_run (world_fault r) → IsFaultOfRun (run_unless r m lines) fault
+no_world None m lines fault is = inl is
+no_world (Some e) m lines fault is = inr (1, Refused e, refl, is)
+
+-- a session over a monitor that has played the schedule begins as over a new one
+pub session_begins : (a : Algorithm) (schedule : Scheduled) (m : MonitorState) (r : Result MonitorState CommandFault) → m ≡ first_monitor a schedule.procs schedule.limit
+    → IfOk r (λ left. left ≡ (run_on 2 m schedule.lines).left) → IfOk r (λ left. at_schedule algorithm_semantics left schedule [] ≡ algorithm_session a schedule)
+session_begins a schedule m (Err fault) made is = tt
+session_begins a schedule m (Ok left) made is =
+    ap (λ (s : MonitorState). at_schedule algorithm_semantics s schedule []) (is ∙ ap (λ (s : MonitorState). (run_on 2 s schedule.lines).left) made)
+    ∙ begins_played a schedule.procs schedule.limit 2 schedule.lines schedule

@@ -15,7 +15,7 @@ use Rattle.schedule.specs.Replays.{CutShort}
 use Rattle.schedule.specs.Schedules.{Scheduled, schedule_at}
 use Rattle.schedule.specs.Tapes.{Reading, Tape, Writes}
 use Rattle.schedule.specs.Wholes.{layout_of, world_run}
-use Rattle.cli.specs.FilesNamed.{image_of as image_of_command, input_of, save_of}
+use Rattle.cli.specs.FilesNamed.{image_of as image_of_command, input_of, save_of, start_of}
 use Rattle.cli.specs.declared.arguments.args.Command.{Command}
 use Rattle.cli.specs.declared.arguments.args.Command.TheVariants.{Step, StepAlgorithm}
 use Rattle.commands.specs.declared.schedules.fault.CommandFault.{CommandFault}
@@ -114,28 +114,28 @@ module _ {S : Type 0} (machine : SessionMachine S) where
 -- a session reads standard input
 pub session_reads : (command : Command) → is_session command ≡ true → input_of command ≡ None
 session_reads (Step file) e = refl
-session_reads (StepAlgorithm algorithm) e = refl
+session_reads (StepAlgorithm args) e = refl
 session_reads _ e = cc
 
 -- it saves no image
 pub session_saves : (command : Command) → is_session command ≡ true → save_of command ≡ None
 session_saves (Step file) e = refl
-session_saves (StepAlgorithm algorithm) e = refl
+session_saves (StepAlgorithm args) e = refl
 session_saves _ e = cc
 
 -- a session reads no file by name
 pub reads_no_file : (command : Command) (file : Option (String Global)) (name : String Global) (A : Type 0) → is_session command ≡ true → file ≡ input_of command → file ≡ Some name → A
 reads_no_file (Step start) file name A e is some = cc
-reads_no_file (StepAlgorithm algorithm) file name A e is some = cc
+reads_no_file (StepAlgorithm args) file name A e is some = cc
 reads_no_file _ file name A e is some = cc
 
 -- a session that begins where nothing was written
-pub in_folder : (command : Command) (image : Option (List ℕ)) (before first now : Used) (old new : Reading) (blank written : Tape) (end : Result Ending CommandFault)
-    → is_some image ≡ is_some (image_of_command command) → first.saved ≡ before.saved → first.texts ≡ before.texts
-    → SessionEndsOf command image (devices old first blank) (devices new now written) end
+pub in_folder : (command : Command) (image start : Option (List ℕ)) (before first now : Used) (old new : Reading) (blank written : Tape) (end : Result Ending CommandFault)
+    → is_some image ≡ is_some (image_of_command command) → is_some start ≡ is_some (start_of command) → first.saved ≡ before.saved → first.texts ≡ before.texts
+    → SessionEndsOf command image start (devices old first blank) (devices new now written) end
     → SessionEndsIn command (devices old before blank) (devices new now written) end
-in_folder command image before first now old new blank written end named saved texts ends =
-    inr (image, named, first, record { names = saved; texts = texts }, ends)
+in_folder command image start before first now old new blank written end named started saved texts ends =
+    inr (image, named, start, started, first, record { names = saved; texts = texts }, ends)
 
 -- what is copied is there where it was
 pub copied_some : (image : Option (Bor (List ℕ))) → is_some (option_copied image) ≡ is_some image

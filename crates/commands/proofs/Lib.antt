@@ -1,6 +1,7 @@
 pub mod AlgorithmExplores
 pub mod AlgorithmHunts
 pub mod AlgorithmPaths
+pub mod AlgorithmReplays
 pub mod AlgorithmSessions
 pub mod AlgorithmShrinks
 pub mod AlgorithmStarving
@@ -9,6 +10,9 @@ pub mod AlgorithmTexts
 pub mod Draws
 pub mod Replays
 pub mod ReportObjects
+pub mod StateSets
+pub mod StateTexts
+pub mod StatesEnds
 pub mod Finishing
 pub mod Gates
 pub mod Judging

@@ -1,7 +1,7 @@
 -- How shrinking on a variant ends, from what was written.
 use Rattle.std.proofs.Common.{Option, Result, inl}
-use Rattle.crashlab.specs.Shrunk.{Shrinks}
-use Rattle.crashlab.specs.declared.variant.Variant.{Variant}
+use Rattle.crashlab.specs.minimization.Shrunk.{Shrinks}
+use Rattle.crashlab.specs.declared.variants.variant.Variant.{Variant}
 use Rattle.schedule.specs.Schedules.{Scheduled}
 use Rattle.schedule.specs.Tapes.{Tape}
 use Rattle.commands.specs.declared.schedules.ending.Ending.{Ending}

@@ -1,9 +1,13 @@
 -- How drawing a schedule's run on an algorithm's text ends.
-use Rattle.std.specs.Prelude.{◌≡◌, ℕ, Bool, List, Option, Result}
+use Rattle.std.specs.Prelude.{◌≡◌, ℕ, Bool, true, false, List, Option, Result}
 use Rattle.algorithms.specs.declared.algorithm.Algorithm.{Algorithm}
 use Rattle.algorithm_explorer.specs.Shrunk.{schedule_run}
+use Rattle.algorithm_lab.specs.Replays.{WritesRunText}
 use Rattle.algorithm_lab.specs.declared.replay_fault.AlgorithmReplayFault.{AlgorithmReplayFault}
+use Rattle.cli.specs.declared.arguments.args.AlgorithmDrawArgs.{AlgorithmDrawArgs}
 use Rattle.diagram.specs.AlgorithmDrawings.{DrawsRun, drawn_text}
+use Rattle.diagram.specs.AlgorithmPages.{algorithm_page}
+use Rattle.diagram.specs.AlgorithmSteps.{text_on_new}
 use Rattle.schedule.specs.Schedules.{Scheduled, head_of}
 use Rattle.schedule.specs.Tapes.{Tape, Reading}
 use Rattle.schedule.specs.declared.replays.verdict.Verdict.{Verdict}
@@ -14,14 +18,19 @@ use Rattle.commands.specs.AlgorithmTexts.{EndsOnBoth}
 use Rattle.commands.specs.Draws.{style_of}
 use Rattle.commands.specs.Statuses.{outcome}
 
--- the drawing of the schedule's run on this algorithm was written, or the command answers why not
-abbrev pub DrawsAlgorithm : Bool → Algorithm → Scheduled → Tape → Tape → Result Ending CommandFault → Type 0
-DrawsAlgorithm svg algorithm schedule before now end =
-    (answer : Result Verdict AlgorithmReplayFault)
-    × DrawsRun before now (drawn_text (style_of svg) (head_of schedule) algorithm schedule.lines) (schedule_run algorithm schedule) answer
-    × (outcome end ≡ outcome_of_run answer)
+-- the drawing of the schedule's run on this algorithm, or its page, was written, and the verdict answered; or the reason why not
+abbrev pub WritesDrawing : Bool → Bool → Algorithm → Scheduled → Tape → Tape → Result Verdict AlgorithmReplayFault → Type 0
+WritesDrawing true svg algorithm schedule before now answer =
+    WritesRunText before now (text_on_new (algorithm_page (head_of schedule)) algorithm schedule) (schedule_run algorithm schedule) answer
+WritesDrawing false svg algorithm schedule before now answer =
+    DrawsRun before now (drawn_text (style_of svg) (head_of schedule) algorithm schedule.lines) (schedule_run algorithm schedule) answer
+
+-- the same as a command answers it
+abbrev pub DrawsAlgorithm : AlgorithmDrawArgs → Algorithm → Scheduled → Tape → Tape → Result Ending CommandFault → Type 0
+DrawsAlgorithm args algorithm schedule before now end =
+    (answer : Result Verdict AlgorithmReplayFault) × WritesDrawing args.html args.svg algorithm schedule before now answer × (outcome end ≡ outcome_of_run answer)
 
 -- how `draw --algorithm` ends
-abbrev pub AlgorithmDrawEnds : Bool → Option (List ℕ) → Reading → Reading → Tape → Tape → Result Ending CommandFault → Type 0
-AlgorithmDrawEnds svg file old new before now end =
-    EndsOnBoth file (λ algorithm schedule. DrawsAlgorithm svg algorithm schedule before now end) old new before now end
+abbrev pub AlgorithmDrawEnds : AlgorithmDrawArgs → Option (List ℕ) → Reading → Reading → Tape → Tape → Result Ending CommandFault → Type 0
+AlgorithmDrawEnds args file old new before now end =
+    EndsOnBoth file (λ algorithm schedule. DrawsAlgorithm args algorithm schedule before now end) old new before now end

@@ -2,13 +2,13 @@
 use Rattle.std.specs.Prelude.{◌≡◌, ◌⊎◌, ℕ, Bool, true, false, List, Option, None, Some, Result, Err}
 use Rattle.algorithms.specs.Worlds.{new_refusal}
 use Rattle.algorithms.specs.declared.algorithm.Algorithm.{Algorithm}
-use Rattle.algorithm_explorer.specs.Hunted.{hunt_answer, IsFoundByHunt, IsLeastOf}
+use Rattle.algorithm_explorer.specs.Hunted.{hunt_answer_from, IsFoundByHunt, IsLeastOf}
 use Rattle.algorithm_explorer.specs.declared.hunt_fault.AlgorithmHuntFault.{AlgorithmHuntFault}
 use Rattle.algorithm_explorer.specs.declared.hunt_fault.AlgorithmHuntFault.TheVariants as of_hunt
 use Rattle.schedule.specs.Schedules.{Scheduled, spelling}
 use Rattle.schedule.specs.Tapes.{Tape}
 use Rattle.schedule.specs.Wholes.{Silent}
-use Rattle.cli.specs.Sizes.{IsHuntSize}
+use Rattle.cli.specs.Sizes.{IsHuntPart}
 use Rattle.cli.specs.declared.arguments.args.AlgorithmHuntArgs.{AlgorithmHuntArgs}
 use Rattle.commands.specs.declared.schedules.ending.Ending.{Ending}
 use Rattle.commands.specs.declared.schedules.fault.CommandFault.{CommandFault}
@@ -24,7 +24,7 @@ fault_of_hunt fault = faults.BadSize
 
 -- what the hunt answers that is asked for
 abbrev pub answer_for : Algorithm → AlgorithmHuntArgs → Option Scheduled
-answer_for algorithm args = hunt_answer algorithm args.procs args.limit args.seed args.rounds args.steps
+answer_for algorithm args = hunt_answer_from algorithm args.procs args.limit args.seed args.steps args.first_round args.rounds
 
 -- what is written for what a hunt answers: that schedule, or a least one
 abbrev pub IsWrittenFor : Bool → Algorithm → Option Scheduled → Option Scheduled → Type 0
@@ -46,9 +46,13 @@ pub record TellsNothing (algorithm : Algorithm) (args : AlgorithmHuntArgs) (befo
   pub none : None ≡ answer_for algorithm args
   pub prints : Prints 0 nothing_line before now end
 
+-- the numbers of a hunt are in their ranges, and so is that of its last round
+abbrev pub AlgorithmHuntFits : AlgorithmHuntArgs → Type 0
+AlgorithmHuntFits args = IsHuntPart args.first_round args.rounds args.steps
+
 -- the rounds or their moves are outside their ranges, or the algorithm has no world of these sizes, and nothing was written
 pub record HasNoHunt (algorithm : Algorithm) (args : AlgorithmHuntArgs) (before now : Tape) : Type 0 where
-  pub sizes : (IsHuntSize args.rounds args.steps → ⊥) ⊎ (new_refusal algorithm args.procs args.limit ≡ None → ⊥)
+  pub sizes : (AlgorithmHuntFits args → ⊥) ⊎ (new_refusal algorithm args.procs args.limit ≡ None → ⊥)
   pub silent : Silent before now
 
 -- how a hunt on this algorithm ends: memory may run out before it is known what it finds

@@ -1,9 +1,9 @@
 -- How a command ends: what its exit status, or its fault, says of what was read, written and is to be saved.
 use Rattle.std.specs.Prelude.{◌≡◌, ◌≢◌, ◌⊎◌, ◌↔◌, ℕ, ◌-◌, ◌*◌, ◌^◌, ◌<◌, ◌≤◌, min, Bool, true, false, List, All, length, Option, Some, None, Result, Ok, Err, IfErr, IsErrAnd}
-use Rattle.crashlab.specs.declared.variant.Variant.{Variant}
-use Rattle.crashlab.specs.declared.variant.Variant.TheVariants.{Right}
-use Rattle.crashlab.specs.Hunted.{hunt_result}
-use Rattle.crashlab.specs.Hunts.{IsFound}
+use Rattle.crashlab.specs.declared.variants.variant.Variant.{Variant}
+use Rattle.crashlab.specs.declared.variants.variant.Variant.TheVariants.{Right}
+use Rattle.crashlab.specs.hunts.Hunted.{found_from}
+use Rattle.crashlab.specs.hunts.Hunts.{IsFound}
 use Rattle.cli.specs.declared.explain.dictionary_entry.DictionaryEntry.{DictionaryEntry}
 use Rattle.cli.specs.declared.explain.dictionary_entry.TheConstants.{ENTRIES}
 use Rattle.cli.specs.declared.explain.meaning.Meaning.{Meaning}
@@ -18,10 +18,10 @@ use Rattle.schedule.specs.TraceJudges.{trace_answer}
 use Rattle.schedule.specs.Wholes.{Silent, WasRead}
 use Rattle.schedule.specs.declared.replays.replay_fault.ReplayFault.{ReplayFault}
 use Rattle.schedule.specs.declared.replays.verdict.Verdict.{Verdict}
-use Rattle.crashlab.specs.Shrunk.{Shrinks}
+use Rattle.crashlab.specs.minimization.Shrunk.{Shrinks}
 use Rattle.diagram.specs.StepLines.{verdict_object}
 use Rattle.cli.specs.declared.arguments.args.Command.{Command}
-use Rattle.cli.specs.declared.arguments.args.Command.TheVariants.{Replay, ReplayAlgorithm, Run, Hunt, HuntAlgorithm, Explore, ExploreAlgorithm, Judge, Draw, DrawAlgorithm, Shrink, ShrinkAlgorithm, Step, StepAlgorithm, Explain}
+use Rattle.cli.specs.declared.arguments.args.Command.TheVariants.{Replay, ReplayAlgorithm, Run, Hunt, HuntAlgorithm, Explore, ExploreAlgorithm, States, StatesAlgorithm, Judge, Draw, DrawAlgorithm, Shrink, ShrinkAlgorithm, Step, StepAlgorithm, Explain}
 use Rattle.cli.specs.declared.arguments.args.HuntArgs.{HuntArgs}
 use Rattle.cli.specs.declared.arguments.args.RunArgs.{RunArgs}
 use Rattle.cli.specs.Sizes.{HuntFits, RunFits}
@@ -42,6 +42,7 @@ use Rattle.commands.specs.Endings.{Prints, ReadsNothing, RunsOut, TellsReads}
 use Rattle.commands.specs.Folders.{Used}
 use Rattle.commands.specs.Replays.{ReplayEnds}
 use Rattle.commands.specs.Shrinks.{ShrinkEnds}
+use Rattle.commands.specs.States.{AlgorithmStatesEnd, StatesEnds}
 use Rattle.commands.specs.Statuses.{fault_of_replay, status_after}
 use Rattle.commands.specs.Tallies.{IsFine, tallies_sent, tallies_text}
 use Rattle.commands.specs.declared.tally.SenderTally.{SenderTally}
@@ -79,13 +80,13 @@ pub record TellsFind (args : HuntArgs) (before now : Tape) (end : Result Ending 
   pub schedule : Scheduled
   pub few : length schedule.lines ≤ args.steps
   pub found : IsFound args.variant schedule
-  pub exact : Some schedule ≡ hunt_result args.variant args.seed args.rounds args.steps
+  pub exact : Some schedule ≡ found_from args.variant args.seed args.steps args.first_round args.rounds
   pub text : TellsFound args.shrink args.variant schedule before now end
 
 -- how `hunt` ends: nothing found, a schedule found, sizes out of their ranges, or out of memory before either is known
 abbrev pub HuntEnds : HuntArgs → Tape → Tape → Result Ending CommandFault → Type 0
 HuntEnds args before now end =
-    (None ≡ hunt_result args.variant args.seed args.rounds args.steps) × Prints 0 nothing_line before now end
+    (None ≡ found_from args.variant args.seed args.steps args.first_round args.rounds) × Prints 0 nothing_line before now end
     ⊎ TellsFind args before now end
     ⊎ (end ≡ Err BadSize) × (HuntFits args → ⊥) × Silent before now
     ⊎ RunsOut before now end
@@ -131,32 +132,35 @@ ExplainEnds (Some dictionary_entry) before now end =
     (meaning : Meaning) × (meaning.name.now ≡ name_of dictionary_entry) × Prints 0 (meaning_text meaning) before now end × IfErr end IsWriteFault
 ExplainEnds None before now end = Prints 0 (list_of ENTRIES) before now end × IfErr end IsWriteFault
 
--- how the session of a command ends, by the text of its image
-abbrev pub SessionEndsOf : Command → Option (List ℕ) → Devices → Devices → Result Ending CommandFault → Type 0
-SessionEndsOf (Step file) image before now end = SessionEnds lock_machine image before now end
-SessionEndsOf (StepAlgorithm algorithm) image before now end =
-    RefusesText image before now end ⊎ HoldsOfAlgorithm image (λ a. AlgorithmSessionEnds a before now end)
-SessionEndsOf command image before now end = ⊥
+-- how the session of a command ends, by the text that the command starts from, and by the text of the schedule that a session on an
+-- algorithm begins with
+abbrev pub SessionEndsOf : Command → Option (List ℕ) → Option (List ℕ) → Devices → Devices → Result Ending CommandFault → Type 0
+SessionEndsOf (Step file) image start before now end = SessionEnds lock_machine image before now end
+SessionEndsOf (StepAlgorithm args) image start before now end =
+    RefusesText image before now end ⊎ HoldsOfAlgorithm image (λ a. AlgorithmSessionEnds a start before now end)
+SessionEndsOf command image start before now end = ⊥
 
 -- the same of the files that it was asked for
 abbrev pub SessionEndsWith : Command → Option (List ℕ) → Reading → Reading → Tape → Tape → Result Ending CommandFault → Type 0
 SessionEndsWith command image old new before now end =
-    (first : Used) × (last : Used) × SessionEndsOf command image (devices old first before) (devices new last now) end
+    (start : Option (List ℕ)) × (first : Used) × (last : Used) × SessionEndsOf command image start (devices old first before) (devices new last now) end
 
 -- by the command and the text of its image; by what was read of the input and written, before and after
 abbrev pub CommandEnds : Command → Option (List ℕ) → Reading → Reading → Tape → Tape → Result Ending CommandFault → Type 0
 CommandEnds (Replay args) image old new before now end = ReplayEnds args image old new before now end
-CommandEnds (ReplayAlgorithm args) image old new before now end = AlgorithmReplayEnds image old new before now end
+CommandEnds (ReplayAlgorithm args) image old new before now end = AlgorithmReplayEnds args image old new before now end
 CommandEnds (Run args) image old new before now end = RunEnds args before now end
 CommandEnds (Hunt args) image old new before now end = HuntEnds args before now end
 CommandEnds (HuntAlgorithm args) image old new before now end = (new ≡ old) × AlgorithmHuntEnds args image before now end
 CommandEnds (Explore args) image old new before now end = ExploreEnds args before now end
 CommandEnds (ExploreAlgorithm args) image old new before now end = (new ≡ old) × AlgorithmExploreEnds args image before now end
+CommandEnds (States args) image old new before now end = StatesEnds args old new before now end
+CommandEnds (StatesAlgorithm args) image old new before now end = AlgorithmStatesEnd args image old new before now end
 CommandEnds (Judge args) image old new before now end = JudgeEnds args.json old new before now end
 CommandEnds (Draw args) image old new before now end = DrawEnds args image old new before now end × TellsReads old new end
-CommandEnds (DrawAlgorithm args) image old new before now end = AlgorithmDrawEnds args.svg image old new before now end
+CommandEnds (DrawAlgorithm args) image old new before now end = AlgorithmDrawEnds args image old new before now end
 CommandEnds (Shrink args) image old new before now end = ShrinkEnds args old new before now end × TellsReads old new end
 CommandEnds (ShrinkAlgorithm args) image old new before now end = AlgorithmShrinkEnds image old new before now end
 CommandEnds (Step file) image old new before now end = SessionEndsWith (Step file) image old new before now end
-CommandEnds (StepAlgorithm algorithm) image old new before now end = SessionEndsWith (StepAlgorithm algorithm) image old new before now end
+CommandEnds (StepAlgorithm args) image old new before now end = SessionEndsWith (StepAlgorithm args) image old new before now end
 CommandEnds (Explain dictionary_entry) image old new before now end = (new ≡ old) × ExplainEnds dictionary_entry before now end

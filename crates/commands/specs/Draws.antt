@@ -1,6 +1,6 @@
 -- How drawing a schedule ends.
 use Rattle.std.specs.Prelude.{◌≡◌, ◌≢◌, Bool, if◌then◌else◌, List, ℕ, Option, Result}
-use Rattle.crashlab.specs.declared.variant.Variant.TheVariants.{Right}
+use Rattle.crashlab.specs.declared.variants.variant.Variant.TheVariants.{Right}
 use Rattle.diagram.specs.declared.diagram_layout.Style.{Style}
 use Rattle.diagram.specs.declared.diagram_layout.Style.TheVariants.{Svg, Text}
 use Rattle.commands.specs.declared.schedules.ending.Ending.{Ending}

@@ -13,12 +13,12 @@ use Rattle.explorer.specs.Fairness.{IsLassoOf, IsLeastLasso, IsNeverStarving}
 use Rattle.explorer.specs.Paths.{HasMoreStates, IsNumberOfStates}
 use Rattle.explorer.specs.Stuck.{LeadsToStuck, IsShortestToStuck, IsNeverStuck}
 use Rattle.schedule.specs.Words.{line_of}
-use Rattle.crashlab.specs.declared.variant.Variant.TheVariants.{Right}
+use Rattle.crashlab.specs.declared.variants.variant.Variant.TheVariants.{Right}
 use Rattle.crashlab.specs.declared.space.moves.Move.{Move}
-use Rattle.crashlab.specs.Numbered.{numbered_rules}
-use Rattle.crashlab.specs.SearchStateWords.{search_state_words}
-use Rattle.crashlab.specs.Spaces.{first_search_state, line_by, rules}
-use Rattle.crashlab.specs.Starvation.{world_rules, fairness}
+use Rattle.crashlab.specs.space.Numbered.{numbered_rules}
+use Rattle.crashlab.specs.space.SearchStateWords.{search_state_words}
+use Rattle.crashlab.specs.space.Spaces.{first_search_state, line_by, rules}
+use Rattle.crashlab.specs.space.Starvation.{world_rules, fairness}
 use Rattle.lock_explorer.specs.declared.search.variables.Variables.{Variables}
 use Rattle.lock_explorer.specs.declared.search.variables.Variables.TheVariants.{All, Live}
 use Rattle.lock_explorer.specs.Keys.{key_by}

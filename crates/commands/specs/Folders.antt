@@ -13,5 +13,5 @@ pub record Used : Type 0 where
 -- a session may write files under way
 abbrev pub is_session : Command → Bool
 is_session (Step file) = true
-is_session (StepAlgorithm algorithm) = true
+is_session (StepAlgorithm args) = true
 is_session command = false

@@ -18,6 +18,9 @@ pub mod Shrinks
 pub mod Starvation
 pub mod Statuses
 pub mod Tellings
+pub mod StatesFaults
+pub mod StateTexts
+pub mod States
 pub mod Commands
 pub mod Explores
 pub mod Faults

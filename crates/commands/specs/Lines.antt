@@ -2,8 +2,9 @@
 use Rattle.std.specs.Prelude.{◌≡◌, ℕ, ◌+◌, ◌-◌, ◌^◌, ◌⊎◌, min, List, [], ◌∷◌, ◌++◌, codes}
 use Rattle.std.specs.Fmt.{decimal}
 use Rattle.commands.specs.declared.schedules.fault.CommandFault.{CommandFault}
-use Rattle.commands.specs.declared.schedules.fault.CommandFault.TheVariants.{Text, Refused, Image, Algorithm, BadVariant, BadSize, Read, Write, OutOfMemory, Member, TooManyStates}
+use Rattle.commands.specs.declared.schedules.fault.CommandFault.TheVariants.{Text, Refused, Image, Algorithm, BadVariant, BadSize, Read, Write, OutOfMemory, Member, TooManyStates, States}
 use Rattle.commands.specs.AlgorithmFaults.{number_of_text_fault, sentence_of}
+use Rattle.commands.specs.StatesFaults.{number_of_states_fault, sentence_of_states_fault}
 use Rattle.schedule.specs.Words.{line_of}
 use Rattle.schedule.specs.Tapes.{Begins, Tape, Writes}
 
@@ -19,6 +20,9 @@ words_of_fault (Image rule) = codes "image:" ∷ codes "rule" ∷ decimal rule �
 words_of_fault (Algorithm line fault) =
     codes "algorithm" ∷ codes "line" ∷ (decimal line ++ codes ":") ∷ codes "fault" ∷ (decimal (number_of_text_fault fault) ++ codes ":")
     ∷ sentence_of fault ∷ []
+words_of_fault (States line fault) =
+    codes "states" ∷ codes "line" ∷ (decimal line ++ codes ":") ∷ codes "fault" ∷ (decimal (number_of_states_fault fault) ++ codes ":")
+    ∷ sentence_of_states_fault fault ∷ []
 words_of_fault BadVariant = codes "bad" ∷ codes "variant" ∷ []
 words_of_fault BadSize = codes "bad" ∷ codes "size" ∷ []
 words_of_fault Read = codes "read" ∷ codes "failed" ∷ []

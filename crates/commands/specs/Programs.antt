@@ -12,7 +12,7 @@ use Rattle.commands.specs.Commands.{CommandEnds, SessionEndsOf}
 use Rattle.commands.specs.Devices.{Devices, devices}
 use Rattle.commands.specs.Endings.{IsEnded}
 pub use Rattle.commands.specs.Folders.{Used, is_session}
-use Rattle.cli.specs.FilesNamed.{image_of, input_of, save_of}
+use Rattle.cli.specs.FilesNamed.{image_of, input_of, save_of, start_of}
 use Rattle.commands.specs.Lines.{fault_line, IsLineWritten}
 use Rattle.cli.specs.Sizes.{IsInRanges}
 use Rattle.cli.specs.ReadWords.{IsCommand, IsWordsRefusal, TakesWords, texts_of}
@@ -20,13 +20,21 @@ use Rattle.commands.specs.Statuses.{save_ended, status_ended}
 
 -- ---- files
 
--- the image is opened, then the file to be read, and no other
-abbrev pub opens_all : Command → List (String Global) → List (String Global)
-opens_all command before = (before ++ option_to_list (image_of command)) ++ option_to_list (input_of command)
+-- the image is opened, or what else the command starts from
+abbrev pub opens_image : Command → List (String Global) → List (String Global)
+opens_image command before = before ++ option_to_list (image_of command)
 
--- if the image can't be read, the file to be read isn't opened
+-- then the schedule that a session on an algorithm begins with
+abbrev pub opens_start : Command → List (String Global) → List (String Global)
+opens_start command before = opens_image command before ++ option_to_list (start_of command)
+
+-- then the file to be read, and no other
+abbrev pub opens_all : Command → List (String Global) → List (String Global)
+opens_all command before = opens_start command before ++ option_to_list (input_of command)
+
+-- if one can't be read, those after it aren't opened
 abbrev pub OpensSome : Command → List (String Global) → List (String Global) → Type 0
-OpensSome command before now = (now ≡ opens_all command before) ⊎ (now ≡ before ++ option_to_list (image_of command))
+OpensSome command before now = (now ≡ opens_all command before) ⊎ ((now ≡ opens_start command before) ⊎ (now ≡ opens_image command before))
 
 -- the file for the last image is written, and no other
 abbrev pub saves_all : Command → List (String Global) → List (String Global)
@@ -70,8 +78,8 @@ EndsOnFile command before now end = CantOpen before now end ⊎ ((last : Reading
 abbrev pub SessionEndsIn : Command → Devices → Devices → Result Ending CommandFault → Type 0
 SessionEndsIn command before now end =
     CantOpen before.output now.output end × (now.input ≡ before.input) × SavesNone before.files now.files
-    ⊎ ((image : Option (List ℕ)) × (is_some image ≡ is_some (image_of command)) × (first : Used) × SavesNone before.files first
-    × SessionEndsOf command image (devices before.input first before.output) now end)
+    ⊎ ((image : Option (List ℕ)) × (is_some image ≡ is_some (image_of command)) × (start : Option (List ℕ)) × (is_some start ≡ is_some (start_of command))
+    × (first : Used) × SavesNone before.files first × SessionEndsOf command image start (devices before.input first before.output) now end)
 
 -- without a fault, no write and no flush has failed
 abbrev pub IsFullyWritten : Tape → Tape → Result Ending CommandFault → Type 0

@@ -1,13 +1,13 @@
 -- How the command `shrink` ends.
 use Rattle.std.specs.Prelude.{◌≡◌, ◌⊎◌, ℕ, List, Option, Some, None, Result, Ok, Err}
-use Rattle.crashlab.specs.declared.variant.Variant.{Variant}
+use Rattle.crashlab.specs.declared.variants.variant.Variant.{Variant}
 use Rattle.schedule.specs.declared.replays.replay_fault.ReplayFault.TheVariants as faults_of_replay
 use Rattle.schedule.specs.declared.replays.verdict.Verdict.TheVariants.{Fine}
 use Rattle.schedule.specs.Tapes.{Tape, Reading}
 use Rattle.schedule.specs.Reports.{verdict_line}
 use Rattle.schedule.specs.Schedules.{Scheduled, schedule_at, spelling}
 use Rattle.schedule.specs.Wholes.{Silent, WasRead}
-use Rattle.crashlab.specs.Shrunk.{IsReason, Shrinks}
+use Rattle.crashlab.specs.minimization.Shrunk.{IsReason, Shrinks}
 use Rattle.commands.specs.declared.schedules.ending.Ending.{Ending}
 use Rattle.commands.specs.declared.schedules.fault.CommandFault.{CommandFault}
 use Rattle.commands.specs.declared.schedules.fault.CommandFault.TheVariants.{Refused}

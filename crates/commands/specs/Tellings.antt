@@ -1,9 +1,9 @@
 -- What is written of a schedule's run, on the machine that is asked for: a drawing, the run step by step, or its report.
 use Rattle.std.specs.Prelude.{◌≡◌, ◌≢◌, ◌⊎◌, ℕ, ◌+◌, ◌-◌, ◌^◌, min, Bool, true, false, List, Option, Some, None, Result, Ok, Err, IfOk, IfSome, IsOk}
 use Rattle.std.proofs.Math.ListN.{replicate}
-use Rattle.crashlab.specs.declared.variant.Variant.{Variant}
-use Rattle.crashlab.specs.declared.variant.Variant.TheVariants.{Right}
-use Rattle.crashlab.specs.VariantWorlds as variants
+use Rattle.crashlab.specs.declared.variants.variant.Variant.{Variant}
+use Rattle.crashlab.specs.declared.variants.variant.Variant.TheVariants.{Right}
+use Rattle.crashlab.specs.variants.VariantWorlds as variants
 use Rattle.diagram.specs.declared.act.DiagramRow.{DiagramRow}
 use Rattle.diagram.specs.declared.drawing.End.{End}
 use Rattle.diagram.specs.declared.drawing.End.TheVariants as ends

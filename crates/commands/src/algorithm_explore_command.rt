@@ -1,7 +1,7 @@
 //! The command `explore` on an algorithm's text.
 
-ghost use Rattle.std.specs.Prelude.{◌≡◌, false, IfErr, IfOk, OnOk, option_copied};
-ghost use Rattle.commands.specs.AlgorithmExplores.{AlgorithmExploreEnds, BothEnd, ShortestEnds, StarvingEnds, StuckEnds, all_line_but, ExploresAlgorithm, calls_had, calls_of as calls_asked, schedule_of as schedule_by};
+ghost use Rattle.std.specs.Prelude.{◌≡◌, false, unwrap_or, IfErr, IfOk, OnOk, option_copied};
+ghost use Rattle.commands.specs.AlgorithmExplores.{AlgorithmExploreEnds, BothEnd, ShortestEnds, StarvingEnds, StuckEnds, all_line_but, ExploresAlgorithm, calls_had as had_calls, calls_of as calls_asked, schedule_of as schedule_by};
 ghost use Rattle.commands.specs.AlgorithmFindings.{line_by, world_call};
 ghost use Rattle.commands.specs.Endings.{IsEnded, Prints};
 ghost use Rattle.schedule.specs.Schedules.{spelling};
@@ -9,6 +9,7 @@ ghost use Rattle.schedule.specs.Schedules.{spelling};
 use crate::algorithm_starvation::tell_starving;
 use crate::algorithm_stuck::tell_stuck;
 use crate::explore_command::{put_call, tell_all, tell_within};
+use crate::jobs::jobs_of;
 use crate::progress::meter::Meter;
 use crate::progress::screen::Screen;
 use crate::progress::work::Work;
@@ -19,23 +20,34 @@ use crate::schedules::findings::{tell_schedule, tell_text};
 use crate::schedules::line::left_out_line;
 use algorithm_explorer::{
     AlgorithmBounds, AlgorithmExploreFault, AlgorithmMove, LeftOut, SearchOutcome,
-    shortest_algorithm_schedule,
+    shortest_algorithm_schedule_in_parallel,
 };
 use algorithms::{Algorithm, AlgorithmCall, Entries};
 use cli::arguments::args::{AlgorithmCalls, AlgorithmExploreArgs, Cycles};
 use rmeworld::Call as WorldCall;
 use schedule::{Count, Line, Schedule, Sink};
 use std::alloc::{AllocError, Global};
+use std::thread::Threads;
 
 /// The calls that a text has.
 fn calls_had(entries: &Entries) -> AlgorithmCalls
-    ensures { result ≡ calls_had entries.now }
+    ensures { result ≡ had_calls entries.now }
 {
     AlgorithmCalls {
         lock: true,
         unlock: true,
         recover: entries.recover.is_some(),
         withdraw: entries.withdraw.is_some(),
+    }
+}
+
+/// The calls that are asked for, or else those that the text has.
+pub(crate) fn asked_calls(algorithm: &Algorithm, args: &AlgorithmExploreArgs) -> AlgorithmCalls
+    ensures { result ≡ unwrap_or args.now.calls (had_calls algorithm.now.entries) }
+{
+    match args.calls {
+        Some(asked) => asked,
+        None => calls_had(&algorithm.entries),
     }
 }
 
@@ -47,10 +59,7 @@ pub(crate) fn calls_of(
 ) -> Result<Vec<AlgorithmCall>, AllocError>
     ensures { IfOk result (λ calls. calls.items ≡ calls_asked algorithm.now args.now) }
 {
-    let asked = match args.calls {
-        Some(asked) => asked,
-        None => calls_had(&algorithm.entries),
-    };
+    let asked = asked_calls(algorithm, args);
     let mut calls = Vec::new(alloc);
     put_call(&mut calls, asked.lock, AlgorithmCall::Lock)?;
     put_call(&mut calls, asked.unlock, AlgorithmCall::Unlock)?;
@@ -133,7 +142,8 @@ fn tell_all_but<W: Sink>(
 }
 
 /// Writes the schedule of fewest moves of the algorithm that goes wrong, or that there is none.
-fn tell_shortest<S: Screen, W: Sink>(
+fn tell_shortest<T: Threads + Sync, S: Screen, W: Sink>(
+    rt: &T,
     alloc: Global,
     algorithm: Algorithm,
     args: &AlgorithmExploreArgs,
@@ -149,8 +159,10 @@ fn tell_shortest<S: Screen, W: Sink>(
     };
     let calls = calls_of(alloc, &algorithm, args)?;
     let mut meter = Meter::new(screen, Work::Search);
-    let found = shortest_algorithm_schedule(
+    let found = shortest_algorithm_schedule_in_parallel(
+        rt,
         alloc,
+        jobs_of(rt, args.jobs) as usize,
         algorithm,
         args.procs,
         args.limit,
@@ -174,7 +186,8 @@ fn tell_shortest<S: Screen, W: Sink>(
 
 /// Reads the algorithm from its text, and writes the schedule of fewest moves that goes wrong, or that there is none.
 #[tactic(auto, using(crate::proofs::AlgorithmTexts::no_algorithm_alone))]
-fn search_shortest<S: Screen, W: Sink>(
+fn search_shortest<T: Threads + Sync, S: Screen, W: Sink>(
+    rt: &T,
     alloc: Global,
     args: &AlgorithmExploreArgs,
     text: Option<&[u8]>,
@@ -185,7 +198,7 @@ fn search_shortest<S: Screen, W: Sink>(
     ensures ended { IfOk result (IsEnded false (W.tape w.old).failures (W.tape w.new).failures) }
 {
     let algorithm = algorithm_read(alloc, text)?;
-    tell_shortest(alloc, algorithm, args, screen, w)
+    tell_shortest(rt, alloc, algorithm, args, screen, w)
 }
 
 /// The same with `--stuck`: the schedule that goes wrong, or else the one of fewest moves to a stuck state.
@@ -241,11 +254,12 @@ fn search_both<S: Screen, W: Sink>(
     })
 }
 
-/// Runs `explore --algorithm`: reads the algorithm from its text, searches its schedules in this thread, and writes the schedule
-/// of fewest moves that goes wrong, or that there is none; with `--stuck` also one to a stuck state, and with `--starving` one in
-/// which a process starves. Progress is shown on the screen. `Algorithm`: the text's fault. `BadSize`: the algorithm is not for this
+/// Runs `explore --algorithm`: reads the algorithm from its text, searches its schedules, and writes the schedule of fewest moves that
+/// goes wrong, or that there is none; with `--stuck` also one to a stuck state, and with `--starving` one in which a process starves,
+/// both in this thread. Progress is shown on the screen. `Algorithm`: the text's fault. `BadSize`: the algorithm is not for this
 /// number of processes, or the limit is outside its range. `TooManyStates`: the search reached more states than it may keep.
-pub fn algorithm_explore_command<S: Screen, W: Sink>(
+pub fn algorithm_explore_command<T: Threads + Sync, S: Screen, W: Sink>(
+    rt: &T,
     alloc: Global,
     args: &AlgorithmExploreArgs,
     text: Option<&[u8]>,
@@ -259,6 +273,6 @@ pub fn algorithm_explore_command<S: Screen, W: Sink>(
         Some(cycles) if args.stuck => search_both(alloc, args, text, cycles, screen, w),
         Some(cycles) => search_starving(alloc, args, text, cycles, screen, w),
         None if args.stuck => search_stuck(alloc, args, text, screen, w),
-        None => search_shortest(alloc, args, text, screen, w),
+        None => search_shortest(rt, alloc, args, text, screen, w),
     }
 }

@@ -1,12 +1,13 @@
 //! The command `hunt` on an algorithm's text.
 
-ghost use Rattle.std.specs.Prelude.{◌≡◌, ◌<◌, ◌≤◌, ◌⊎◌, ◌↔◌, false, None, Some, IfOk, IfSome, IsErrOf, OnOk, option_copied};
+ghost use Rattle.std.specs.Prelude.{◌≡◌, ◌+◌, ◌<◌, ◌≤◌, ◌⊎◌, ◌↔◌, false, None, Some, IfOk, IfSome, IsErrOf, OnOk, option_copied};
 ghost use Rattle.algorithms.specs.Worlds.{new_refusal};
 ghost use Rattle.algorithms.specs.declared.refusal.AlgorithmRefusal.{AlgorithmRefusal as RefusalOf};
 ghost use Rattle.algorithm_explorer.specs.Hunted.{IsFoundByHunt};
 ghost use Rattle.commands.specs.AlgorithmHunts.{AlgorithmHuntEnds, answer_for, fault_of_hunt, HuntsAlgorithm, IsWrittenFor};
 ghost use Rattle.commands.specs.Endings.{IsEnded};
 
+use crate::jobs::jobs_of;
 use crate::progress::meter::Meter;
 use crate::progress::screen::Screen;
 use crate::progress::work::Work;
@@ -15,12 +16,13 @@ use crate::schedules::ending::Ending;
 use crate::schedules::fault::CommandFault;
 use crate::schedules::findings::{tell_nothing, tell_schedule};
 use algorithm_explorer::{
-    AlgorithmHuntFault, Watch, hunt_algorithm_schedule, hunt_least_algorithm_schedule,
+    AlgorithmHuntFault, Watch, hunt_algorithm_in_parallel, hunt_least_algorithm_in_parallel,
 };
 use algorithms::Algorithm;
 use cli::arguments::args::AlgorithmHuntArgs;
 use schedule::{Schedule, Sink};
 use std::alloc::Global;
+use std::thread::Threads;
 
 /// The command's fault for a fault of a hunt.
 fn hunt_fault(fault: AlgorithmHuntFault) -> CommandFault
@@ -35,7 +37,8 @@ fn hunt_fault(fault: AlgorithmHuntFault) -> CommandFault
 }
 
 /// Hunts on the algorithm. The schedule that is found is minimized if that is asked for.
-fn schedule_hunted<M: Watch>(
+fn schedule_hunted<T: Threads + Sync, M: Watch>(
+    rt: &T,
     alloc: Global,
     algorithm: Algorithm,
     args: &AlgorithmHuntArgs,
@@ -45,23 +48,31 @@ fn schedule_hunted<M: Watch>(
     ensures found { OnOk result (IfSome (answer_for algorithm args.now)
         (IsFoundByHunt algorithm args.now.procs args.now.limit args.now.steps)) }
     ensures accepted { OnOk result (new_refusal algorithm args.now.procs args.now.limit ≡ None) }
-    ensures rounds { IsErrOf result AlgorithmHuntFault.BadRounds ↔ ((args.now.rounds ≡ 0) ⊎ (10000 < args.now.rounds)) }
+    ensures rounds { IsErrOf result AlgorithmHuntFault.BadRounds
+        ↔ ((args.now.rounds ≡ 0) ⊎ (10000 < args.now.first_round + args.now.rounds)) }
     ensures steps { IsErrOf result AlgorithmHuntFault.BadSteps
-        ↔ ((0 < args.now.rounds) × (args.now.rounds ≤ 10000) × ((args.now.steps ≡ 0) ⊎ (10000 < args.now.steps))) }
+        ↔ ((0 < args.now.rounds) × (args.now.first_round + args.now.rounds ≤ 10000)
+        × ((args.now.steps ≡ 0) ⊎ (10000 < args.now.steps))) }
     ensures refused { (e : RefusalOf) → IsErrOf result (AlgorithmHuntFault.Refused e)
         → new_refusal algorithm args.now.procs args.now.limit ≡ Some e }
 {
     let (procs, limit) = (args.procs, args.limit);
-    let (seed, rounds, steps) = (args.seed, args.rounds, args.steps);
+    let (seed, first, rounds, steps) = (args.seed, args.first_round, args.rounds, args.steps);
+    let jobs = jobs_of(rt, args.jobs);
     if args.shrink {
-        hunt_least_algorithm_schedule(alloc, algorithm, procs, limit, seed, rounds, steps, watch)
+        hunt_least_algorithm_in_parallel(
+            rt, alloc, jobs, algorithm, procs, limit, seed, first, rounds, steps, watch,
+        )
     } else {
-        hunt_algorithm_schedule(alloc, algorithm, procs, limit, seed, rounds, steps, watch)
+        hunt_algorithm_in_parallel(
+            rt, alloc, jobs, algorithm, procs, limit, seed, first, rounds, steps, watch,
+        )
     }
 }
 
 /// Writes the schedule that a hunt on the algorithm finds, minimized if that is asked for, or that there is none.
-fn tell_hunted<S: Screen, W: Sink>(
+fn tell_hunted<T: Threads + Sync, S: Screen, W: Sink>(
+    rt: &T,
     alloc: Global,
     algorithm: Algorithm,
     args: &AlgorithmHuntArgs,
@@ -72,7 +83,7 @@ fn tell_hunted<S: Screen, W: Sink>(
     ensures ended { IfOk result (IsEnded false (W.tape w.old).failures (W.tape w.new).failures) }
 {
     let mut meter = Meter::new(screen, Work::Hunt);
-    let found = schedule_hunted(alloc, algorithm, args, &mut meter);
+    let found = schedule_hunted(rt, alloc, algorithm, args, &mut meter);
     meter.end();
     match found {
         Ok(Some(schedule)) => tell_schedule(alloc, &schedule, w),
@@ -81,12 +92,13 @@ fn tell_hunted<S: Screen, W: Sink>(
     }
 }
 
-/// Runs `hunt --algorithm`: reads the algorithm from its text, draws schedules of it in this thread, and writes the first that
-/// goes wrong, minimized if that is asked for, or that there is none. Progress is shown on the screen. `Algorithm`: the text's
-/// fault. `BadSize`: the algorithm is not for this number of processes, or another number is outside its range. Other faults are
-/// those of the writer and of memory.
+/// Runs `hunt --algorithm`: reads the algorithm from its text, draws schedules of it, and writes the first that goes wrong, minimized
+/// if that is asked for, or that there is none. It is the same for any number of threads. Progress is shown on the screen.
+/// `Algorithm`: the text's fault. `BadSize`: the algorithm is not for this number of processes, or another number is outside its
+/// range. Other faults are those of the writer and of memory.
 #[tactic(auto, using(crate::proofs::AlgorithmTexts::no_algorithm_alone))]
-pub fn algorithm_hunt_command<S: Screen, W: Sink>(
+pub fn algorithm_hunt_command<T: Threads + Sync, S: Screen, W: Sink>(
+    rt: &T,
     alloc: Global,
     args: &AlgorithmHuntArgs,
     text: Option<&[u8]>,
@@ -97,5 +109,5 @@ pub fn algorithm_hunt_command<S: Screen, W: Sink>(
     ensures ended { IfOk result (IsEnded false (W.tape w.old).failures (W.tape w.new).failures) }
 {
     let algorithm = algorithm_read(alloc, text)?;
-    tell_hunted(alloc, algorithm, args, screen, w)
+    tell_hunted(rt, alloc, algorithm, args, screen, w)
 }

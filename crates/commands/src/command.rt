@@ -1,9 +1,11 @@
 //! The commands, over a reader and two writers.
 
-ghost use Rattle.std.specs.Prelude.{◌≡◌, Result, ℕ, List, IfErr, IfOk, is_some, option_copied, true, false};
+ghost use Rattle.std.specs.Prelude.{◌≡◌, ◌⊎◌, ◌≤◌, Result, ℕ, List, length, IfErr, IfOk, IfSome, IsNone, is_some, option_copied, true, false};
 ghost use Rattle.schedule.specs.Tapes.{Tape};
 ghost use Rattle.cli.specs.Report.{IsWritten};
-ghost use Rattle.crashlab.specs.Hunts.{IsFound};
+ghost use Rattle.crashlab.specs.hunts.Hunted.{found_from};
+ghost use Rattle.crashlab.specs.hunts.Hunts.{IsFound};
+ghost use Rattle.cli.specs.Sizes.{HuntFits};
 ghost use Rattle.commands.specs.Commands.{CommandEnds, ExplainEnds, HuntEnds, JudgeEnds, SessionEndsOf, TellsFound, verdict_text};
 ghost use Rattle.commands.specs.Devices.{devices};
 ghost use Rattle.commands.specs.Endings.{IsEnded, Prints};
@@ -33,9 +35,11 @@ use crate::schedules::replay_command::replay_command;
 use crate::schedules::shrunk::shrink_command;
 use crate::sessions::algorithm::algorithm_session_command;
 use crate::sessions::session_loop::session_command;
+use crate::states::algorithm_states_command::algorithm_states_command;
+use crate::states::states_command::states_command;
 use cli::arguments::args::{Command, HuntArgs};
 use cli::{DictionaryEntry, tell_all_names, tell_dictionary_entry};
-use crashlab::{HuntFault, Variant, hunt_in_parallel_watched, shrink_found};
+use crashlab::{HuntFault, Variant, hunt_in_parallel_watched, hunt_part, shrink_found};
 use diagram::put_verdict_object;
 use schedule::texts::device::write_all;
 use schedule::{Failed, Schedule, Sink, Source, Verdict, judge_trace, put_verdict};
@@ -123,18 +127,30 @@ fn tell_found<W: Sink>(
     }
 }
 
-/// Runs `hunt`: writes the schedule that was found, or that there is none. It is the same for any number of threads. Progress
-/// is shown on the screen. `BadSize`: a number is outside its range. Other faults are those of the writer and of memory.
-pub fn hunt_command<T: Threads + Sync, S: Screen, W: Sink>(
+/// The schedule that a hunt finds, from its first round on. From round 0 on it is hunted by threads. Progress is shown on the screen.
+fn schedule_of_hunt<T: Threads + Sync, S: Screen>(
     rt: &T,
     alloc: Global,
     args: &HuntArgs,
     screen: &mut S,
-    w: &mut W,
-) -> Result<Ending, CommandFault>
-    ensures ends { HuntEnds args.now (W.tape w.old) (W.tape w.new) result }
-    ensures ended { IfOk result (IsEnded false (W.tape w.old).failures (W.tape w.new).failures) }
+) -> Result<Option<Schedule>, HuntFault>
+    ensures exact { IfOk result (λ found. found
+        ≡ found_from args.now.variant args.now.seed args.now.steps args.now.first_round args.now.rounds) }
+    ensures right { args.now.variant ≡ Variant.Right → IfOk result IsNone }
+    ensures found { IfOk result (λ found. IfSome found (λ schedule. IsFound args.now.variant schedule)) }
+    ensures moves { IfOk result (λ found. IfSome found (λ schedule. length schedule.lines ≤ args.now.steps)) }
+    ensures failed { IfErr result (λ fault. (fault ≡ HuntFault.OutOfMemory) ⊎ (HuntFits args.now → ⊥)) }
 {
+    if args.first_round > 0 {
+        return hunt_part(
+            alloc,
+            args.variant,
+            args.seed,
+            args.first_round,
+            args.rounds,
+            args.steps,
+        );
+    }
     let mut meter = Meter::new(screen, Work::Hunt);
     let found = hunt_in_parallel_watched(
         rt,
@@ -147,7 +163,22 @@ pub fn hunt_command<T: Threads + Sync, S: Screen, W: Sink>(
         &mut meter,
     );
     meter.end();
-    match found {
+    found
+}
+
+/// Runs `hunt`: writes the schedule that was found, or that there is none. It is the same for any number of threads. Progress
+/// is shown on the screen. `BadSize`: a number is outside its range. Other faults are those of the writer and of memory.
+pub fn hunt_command<T: Threads + Sync, S: Screen, W: Sink>(
+    rt: &T,
+    alloc: Global,
+    args: &HuntArgs,
+    screen: &mut S,
+    w: &mut W,
+) -> Result<Ending, CommandFault>
+    ensures ends { HuntEnds args.now (W.tape w.old) (W.tape w.new) result }
+    ensures ended { IfOk result (IsEnded false (W.tape w.old).failures (W.tape w.new).failures) }
+{
+    match schedule_of_hunt(rt, alloc, args, screen) {
         Ok(Some(schedule)) => tell_found(alloc, args, &schedule, w),
         Ok(None) => tell_nothing(w),
         Err(HuntFault::BadRounds | HuntFault::BadSteps) => Err(CommandFault::BadSize),
@@ -185,14 +216,16 @@ fn explain_command<W: Sink>(
     }
 }
 
-/// Carries out a command. It reads the schedule or the trace from `r`, and writes to `w`. `image` is the text of the file that
-/// the command starts from: an image, an algorithm, or a session's first schedule. The progress of a search or a hunt is shown
-/// on the screen. A fault says why there is no verdict.
+/// Carries out a command. It reads the schedule, the trace or the states from `r`, and writes to `w`. `image` is the text of the
+/// file that the command starts from: an image, an algorithm, or the first schedule of a session on the lock; `start` is that of
+/// the first schedule of a session on an algorithm. The progress of a search or a hunt is shown on the screen. A fault says why
+/// there is no verdict.
 pub fn carry_out<T: Threads + Wait + Sync, F: Folder, S: Screen, R: Source, W: Sink>(
     rt: &T,
     alloc: Global,
     command: &Command,
     image: Option<&[u8]>,
+    start: Option<&[u8]>,
     folder: &mut F,
     screen: &mut S,
     r: &mut R,
@@ -203,27 +236,31 @@ pub fn carry_out<T: Threads + Wait + Sync, F: Folder, S: Screen, R: Source, W: S
     ensures ended { IfOk result (IsEnded (is_some (save_of command.now)) (W.tape w.old).failures (W.tape w.new).failures) }
     ensures opened { (F.used folder.new).opened ≡ (F.used folder.old).opened }
     ensures kept { is_session command.now ≡ false → F.used folder.new ≡ F.used folder.old }
-    ensures session { is_session command.now ≡ true → SessionEndsOf command.now (option_copied image.entry)
+    ensures session { is_session command.now ≡ true → SessionEndsOf command.now (option_copied image.entry) (option_copied start.entry)
         (devices (R.reading r.old) (F.used folder.old) (W.tape w.old))
         (devices (R.reading r.new) (F.used folder.new) (W.tape w.new)) result }
 {
     match command {
         Command::Replay(args) => replay_command(alloc, args, image, r, w),
-        Command::ReplayAlgorithm(_) => algorithm_replay_command(alloc, image, r, w),
+        Command::ReplayAlgorithm(args) => algorithm_replay_command(alloc, args, image, r, w),
         Command::Judge(args) => judge_command(alloc, args.json, r, w),
         Command::Draw(args) => draw_command(alloc, args, image, r, w),
         Command::DrawAlgorithm(args) => algorithm_draw_command(alloc, args, image, r, w),
         Command::Shrink(args) => shrink_command(alloc, args, r, w),
         Command::ShrinkAlgorithm(_) => algorithm_shrink_command(alloc, image, r, w),
         Command::Hunt(args) => hunt_command(rt, alloc, args, screen, w),
-        Command::HuntAlgorithm(args) => algorithm_hunt_command(alloc, args, image, screen, w),
+        Command::HuntAlgorithm(args) => algorithm_hunt_command(rt, alloc, args, image, screen, w),
         Command::Explore(args) => explore_command(rt, alloc, args, screen, w),
         Command::ExploreAlgorithm(args) => {
-            algorithm_explore_command(alloc, args, image, screen, w)
+            algorithm_explore_command(rt, alloc, args, image, screen, w)
         }
+        Command::States(args) => states_command(alloc, args, r, w),
+        Command::StatesAlgorithm(args) => algorithm_states_command(alloc, args, image, r, w),
         Command::Run(args) => run_command(rt, alloc, args, w),
         Command::Step(_) => session_command(alloc, image, folder, r, w),
-        Command::StepAlgorithm(_) => algorithm_session_command(alloc, image, folder, r, w),
+        Command::StepAlgorithm(_) => {
+            algorithm_session_command(alloc, image, start, folder, r, w)
+        }
         Command::Explain(dictionary_entry) => explain_command(*dictionary_entry, w),
     }
 }
@@ -245,7 +282,7 @@ pub fn command_shown<T: Threads + Wait + Sync, S: Screen, R: Source, W: Sink, E:
     ensures unsaved { is_some (save_of command.now) ≡ false → is_some result.save ≡ false }
 {
     let mut folder = NoFolder::new();
-    match carry_out(rt, alloc, command, image, &mut folder, screen, r, w) {
+    match carry_out(rt, alloc, command, image, None, &mut folder, screen, r, w) {
         Ok(ending) => ending,
         Err(fault) => Ending {
             status: write_fault(fault, e),

@@ -5,7 +5,7 @@ ghost use Rattle.std.specs.Fmt.{decimal};
 ghost use Rattle.commands.specs.Endings.{IsEnded, Prints};
 ghost use Rattle.schedule.specs.Schedules.{spelling};
 ghost use Rattle.commands.specs.Explores.{appends as appends_of, calls_if_asked, all_line, calls_of as calls_asked, ExploreEnds, ShortestEnds, schedule_of as schedule_by, variables_by, within_line};
-ghost use Rattle.crashlab.specs.Spaces.{line_by};
+ghost use Rattle.crashlab.specs.space.Spaces.{line_by};
 
 use crate::jobs::jobs_of;
 use crate::progress::meter::Meter;

@@ -19,6 +19,7 @@ pub mod run_command;
 pub mod schedules;
 pub mod sessions;
 mod starvation;
+pub mod states;
 mod stuck;
 pub mod tally;
 

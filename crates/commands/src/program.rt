@@ -3,7 +3,7 @@
 ghost use Rattle.std.specs.Prelude.{◌≡◌, ◌⊎◌, ◌+◌, ◌-◌, ◌^◌, ◌++◌, ◌∷◌, [], min, true, false, None, is_some, option_to_list, IfErr, IfOk, IsErr, IsOk, OnErr, OnOk};
 ghost use Rattle.commands.specs.Endings.{IsEnded};
 ghost use Rattle.schedule.specs.Tapes.{Writes};
-ghost use Rattle.cli.specs.FilesNamed.{image_of, input_of, save_of};
+ghost use Rattle.cli.specs.FilesNamed.{image_of, input_of, save_of, start_of};
 ghost use Rattle.commands.specs.Lines.{IsLineWritten};
 ghost use Rattle.commands.specs.Devices.{devices};
 ghost use Rattle.commands.specs.Folders.{is_session};
@@ -83,6 +83,24 @@ fn image_text<F: Folder>(
     }
 }
 
+/// The text of the schedule that a session on an algorithm begins with, if the command names its file.
+fn start_text<F: Folder>(
+    alloc: Global,
+    command: &Command,
+    folder: &mut F,
+) -> Result<Option<Vec<u8>>, CommandFault>
+    ensures opened { (F.used folder.new).opened ≡ (F.used folder.old).opened ++ option_to_list (start_of command.now) }
+    ensures saved { (F.used folder.new).saved ≡ (F.used folder.old).saved }
+    ensures texts { (F.used folder.new).texts ≡ (F.used folder.old).texts }
+    ensures named { IfOk result (λ text. is_some text ≡ is_some (start_of command.now)) }
+    ensures failed { IfErr result (λ fault. (fault ≡ CommandFault.Read) ⊎ (fault ≡ CommandFault.OutOfMemory)) }
+{
+    match command.start_file() {
+        Some(name) => Ok(Some(file_text(alloc, folder, name)?)),
+        None => Ok(None),
+    }
+}
+
 /// Carries out the command with the file of this name as its input.
 fn ended_on_file<T: Threads + Wait + Sync, F: Folder, S: Screen, W: Sink>(
     rt: &T,
@@ -102,10 +120,12 @@ fn ended_on_file<T: Threads + Wait + Sync, F: Folder, S: Screen, W: Sink>(
     ensures ended { IfOk result (IsEnded (is_some (save_of command.now)) (W.tape out.old).failures (W.tape out.new).failures) }
 {
     let mut file = folder.open(name).map_err(open_fault)?;
-    carry_out(rt, alloc, command, image, folder, screen, &mut file, out)
+    carry_out(
+        rt, alloc, command, image, None, folder, screen, &mut file, out,
+    )
 }
 
-/// Carries out the command. The file that it starts from is read first. The input is read if no file is named.
+/// Carries out the command. The files that it starts from are read first. The input is read if no file is named.
 fn execute<T: Threads + Wait + Sync, F: Folder, S: Screen, R: Source, W: Sink>(
     rt: &T,
     alloc: Global,
@@ -129,6 +149,8 @@ fn execute<T: Threads + Wait + Sync, F: Folder, S: Screen, R: Source, W: Sink>(
     ensures on_file { is_some (input_of command.now) ≡ true → EndsOnFile command.now (W.tape out.old) (W.tape out.new) result }
 {
     let image = image_text(alloc, command, folder)?;
+    let start = start_text(alloc, command, folder)?;
+    let first = start.as_deref();
     match command.input_file() {
         Some(name) => ended_on_file(
             rt,
@@ -145,6 +167,7 @@ fn execute<T: Threads + Wait + Sync, F: Folder, S: Screen, R: Source, W: Sink>(
             alloc,
             command,
             image.as_deref(),
+            first,
             folder,
             screen,
             input,

@@ -4,11 +4,15 @@
 mod closed_sets;
 pub mod jugs;
 #[cfg(test)]
+mod lock_streams;
+#[cfg(test)]
 mod scarce_memory;
 #[cfg(test)]
 mod schedules;
 #[cfg(test)]
 mod searches;
+#[cfg(test)]
+mod set_texts;
 #[cfg(test)]
 mod set_walks;
 pub mod spins;

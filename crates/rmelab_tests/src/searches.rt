@@ -10,4 +10,5 @@ mod jobs;
 mod memory;
 mod named_texts;
 mod shrinks;
+mod states;
 mod watched;

@@ -1,6 +1,6 @@
 //! The items of `crashlab`. A plan has counts of its own, so it is made by `new`.
 
-ghost use Rattle.crashlab.specs.Hunts.{IsFound};
+ghost use Rattle.crashlab.specs.hunts.Hunts.{IsFound};
 
 use crashlab::{
     At, Both, CrashPlan, HuntFault, Never, Seeded, Variant, VariantWorld, hunt, hunt_in_parallel,

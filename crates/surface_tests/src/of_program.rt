@@ -67,6 +67,8 @@ pub fn runs_threads(read: &Command) -> bool {
         | Command::ReplayAlgorithm(_)
         | Command::HuntAlgorithm(_)
         | Command::ExploreAlgorithm(_)
+        | Command::States(_)
+        | Command::StatesAlgorithm(_)
         | Command::Judge(_)
         | Command::Draw(_)
         | Command::DrawAlgorithm(_)

@@ -26,6 +26,10 @@ pub struct ReplayArgs {
 pub struct AlgorithmReplayArgs {
     /// The file of the algorithm's text.
     pub algorithm: String,
+    /// Print one JSON object of the report's lines; with `each` one object for each step.
+    pub json: bool,
+    /// Print a line for each step.
+    pub each: bool,
     /// The schedule's file; without one, standard input.
     pub file: Option<String>,
 }
@@ -50,6 +54,8 @@ pub struct RunArgs {
 pub struct HuntArgs {
     pub variant: Variant,
     pub seed: u64,
+    /// The number of the first round.
+    pub first_round: u64,
     pub rounds: u64,
     /// The number of moves of a round.
     pub steps: u64,
@@ -67,11 +73,15 @@ pub struct AlgorithmHuntArgs {
     pub procs: u64,
     pub limit: u64,
     pub seed: u64,
+    /// The number of the first round.
+    pub first_round: u64,
     pub rounds: u64,
     /// The number of moves of a round.
     pub steps: u64,
     /// Shrink the schedule that was found.
     pub shrink: bool,
+    /// How many threads share out the rounds; 0: as many as there are processors.
+    pub jobs: u64,
 }
 
 /// The calls that a search starts.
@@ -149,6 +159,55 @@ pub struct AlgorithmExploreArgs {
     pub stuck: bool,
     /// The cycles in which it looks for a process that starves, with no bound on the moves.
     pub starving: Option<Cycles>,
+    /// How many threads expand the states; 0: as many as there are processors. A search for stuck states or for starvation has one.
+    pub jobs: u64,
+}
+
+/// What `states` does with lines of states.
+#[derive(Clone, Copy, Debug, PartialEq, Eq)]
+pub enum StatesTool {
+    /// Writes the line of the first state.
+    First,
+    /// Writes the lines of the successors of the states that it reads.
+    Expand,
+    /// Writes the lines of those states that it reads from which a move leads into a set.
+    Lead,
+    /// Says whether the set of states that it reads is closed.
+    Check,
+    /// Writes the schedule that leads through the sets of states that it reads to a fault.
+    Walk,
+}
+
+/// What is read, and the form of its lines.
+#[derive(Debug, Drop, PartialEq, Eq)]
+pub struct StreamArgs {
+    pub tool: StatesTool,
+    /// The most words of a key; 0: as many as the first key has, 24 more, and 8 more for each process.
+    pub words: u64,
+    /// The number of characters of a word.
+    pub digits: u64,
+    /// The number of the part of all keys that is checked, from 0 on.
+    pub part: u64,
+    /// The number of the parts.
+    pub parts: u64,
+    /// The file of the lines; without one, standard input.
+    pub file: Option<String>,
+}
+
+/// `states`: the states of a search as lines of a text.
+#[derive(Debug, Drop, PartialEq, Eq)]
+pub struct StatesArgs {
+    /// The search whose states they are.
+    pub search: ExploreArgs,
+    pub stream: StreamArgs,
+}
+
+/// `states --algorithm`: the states of an algorithm's search as lines of a text.
+#[derive(Debug, Drop, PartialEq, Eq)]
+pub struct AlgorithmStatesArgs {
+    /// The search whose states they are.
+    pub search: AlgorithmExploreArgs,
+    pub stream: StreamArgs,
 }
 
 /// `judge`: judges a trace of deeds.
@@ -179,6 +238,8 @@ pub struct DrawArgs {
 pub struct AlgorithmDrawArgs {
     /// The file of the algorithm's text.
     pub algorithm: String,
+    /// Write a page that shows the run step by step.
+    pub html: bool,
     /// Draw as SVG, and not as text.
     pub svg: bool,
     /// The schedule's file; without one, standard input.
@@ -202,6 +263,15 @@ pub struct AlgorithmShrinkArgs {
     pub file: Option<String>,
 }
 
+/// `step --algorithm`: holds a session over a schedule on an algorithm.
+#[derive(Debug, Drop, PartialEq, Eq)]
+pub struct AlgorithmStepArgs {
+    /// The file of the algorithm's text.
+    pub algorithm: String,
+    /// The file of the schedule to begin with; without one, the first line of the input is a header.
+    pub file: Option<String>,
+}
+
 /// A command with its arguments.
 #[derive(Debug, Drop, PartialEq, Eq)]
 pub enum Command {
@@ -212,6 +282,8 @@ pub enum Command {
     HuntAlgorithm(AlgorithmHuntArgs),
     Explore(ExploreArgs),
     ExploreAlgorithm(AlgorithmExploreArgs),
+    States(StatesArgs),
+    StatesAlgorithm(AlgorithmStatesArgs),
     Judge(JudgeArgs),
     Draw(DrawArgs),
     DrawAlgorithm(AlgorithmDrawArgs),
@@ -219,14 +291,13 @@ pub enum Command {
     ShrinkAlgorithm(AlgorithmShrinkArgs),
     /// Holds a session over a schedule, which begins with the one in this file.
     Step(Option<String>),
-    /// Holds a session over a schedule on the algorithm whose text is in this file.
-    StepAlgorithm(String),
+    StepAlgorithm(AlgorithmStepArgs),
     /// Prints what this entry means; without one, the names of all entries.
     Explain(Option<DictionaryEntry>),
 }
 
 impl Command {
-    ghost use Rattle.cli.specs.FilesNamed.{image_of, input_of, save_of};
+    ghost use Rattle.cli.specs.FilesNamed.{image_of, input_of, save_of, start_of};
 
     /// The file that the command reads; without one, it reads standard input.
     pub fn input_file(&self) -> Option<&String>
@@ -235,6 +306,8 @@ impl Command {
         match self {
             Command::Replay(args) => args.file.as_ref(),
             Command::ReplayAlgorithm(args) => args.file.as_ref(),
+            Command::States(args) => args.stream.file.as_ref(),
+            Command::StatesAlgorithm(args) => args.stream.file.as_ref(),
             Command::Judge(args) => args.file.as_ref(),
             Command::Draw(args) => args.file.as_ref(),
             Command::DrawAlgorithm(args) => args.file.as_ref(),
@@ -244,7 +317,7 @@ impl Command {
         }
     }
 
-    /// The file that the command starts from: an image, an algorithm, or the first schedule of a session.
+    /// The file that the command starts from: an image, an algorithm, or the first schedule of a session on the lock.
     pub fn image_file(&self) -> Option<&String>
         ensures { option_copied result ≡ image_of self.now }
     {
@@ -253,11 +326,22 @@ impl Command {
             Command::ReplayAlgorithm(args) => Some(&args.algorithm),
             Command::HuntAlgorithm(args) => Some(&args.algorithm),
             Command::ExploreAlgorithm(args) => Some(&args.algorithm),
+            Command::StatesAlgorithm(args) => Some(&args.search.algorithm),
             Command::Draw(args) => args.image.as_ref(),
             Command::DrawAlgorithm(args) => Some(&args.algorithm),
             Command::ShrinkAlgorithm(args) => Some(&args.algorithm),
             Command::Step(file) => file.as_ref(),
-            Command::StepAlgorithm(algorithm) => Some(algorithm),
+            Command::StepAlgorithm(args) => Some(&args.algorithm),
+            _ => None,
+        }
+    }
+
+    /// The file of the first schedule of a session on an algorithm.
+    pub fn start_file(&self) -> Option<&String>
+        ensures { option_copied result ≡ start_of self.now }
+    {
+        match self {
+            Command::StepAlgorithm(args) => args.file.as_ref(),
             _ => None,
         }
     }

@@ -119,6 +119,14 @@ impl<'a> Argument<'a> {
         Argument::text("algorithm", "FILE", help)
     }
 
+    /// The tool of `states`.
+    pub fn tool() -> Argument<'a>
+        ensures { rule_of_argument result ≡ word (codes "TOOL") }
+    {
+        let help = "first, expand, lead, check or walk";
+        Argument::new(ArgumentForm::Word, "TOOL", "", help)
+    }
+
     /// `--starving` or `--starving WHO`: who may give up.
     pub fn starving() -> Argument<'a>
         ensures { rule_of_argument result ≡ starving }

@@ -10,15 +10,7 @@ use crate::arguments::words::{
     WordsFault, is_alone, is_set, str_of, text_of, variant_beside_image,
 };
 use clap::ArgMatches;
-use std::alloc::{AllocError, Global};
-
-/// The error text for a page of a run of an algorithm.
-fn without_page(alloc: Global) -> Result<String, AllocError> {
-    String::from_str(
-        alloc,
-        "error: with '--algorithm <FILE>' there is no '--html'\n\nFor more information, try '--help'.\n",
-    )
-}
+use std::alloc::Global;
 
 /// A drawing of a run of the algorithm with this text.
 fn algorithm_words(
@@ -32,13 +24,10 @@ fn algorithm_words(
     if !is_alone(matches) {
         return Err(WordsFault::BadVariant);
     }
-    if is_set(matches, "html") {
-        return Err(WordsFault::Refused {
-            text: without_page(alloc)?,
-        });
-    }
+    let html = is_set(matches, "html");
     Ok(Command::DrawAlgorithm(AlgorithmDrawArgs {
         algorithm: String::from_str(alloc, algorithm)?,
+        html,
         svg: is_set(matches, "svg"),
         file: text_of(alloc, matches, "FILE")?,
     }))

@@ -4,7 +4,7 @@ ghost use Rattle.std.specs.Prelude.{◌≡◌, ◌↔◌, ◌≢◌, true, map, 
 ghost use Rattle.std.specs.List.{list_all};
 ghost use Rattle.clap.specs.Words.{first_of};
 ghost use Rattle.cli.specs.Given.{given_in, is_set, has_call, is_call, alphabet_of, is_algorithm_call, algorithm_calls_of, algorithm_calls_in as algorithm_calls_asked, are_algorithm_calls, calls_of, calls_without, names_in, word_of_cycles, AsksForCycles};
-ghost use Rattle.cli.specs.ReadWords.{IsAlgorithmSearch, IsBadStarving, IsFaultOfAlgorithmCalls, IsFaultOfCalls, IsStuckWithin, ReadsCommand};
+ghost use Rattle.cli.specs.ReadWords.{IsAlgorithmExplore, IsAlgorithmSearch, IsBadStarving, IsExplore, IsFaultOfAlgorithmCalls, IsFaultOfCalls, IsFaultOfSearch, IsStuckWithin, ReadsCommand};
 ghost use Rattle.cli.specs.declared.arguments.args.Cycles.{Cycles as AnyCycles};
 
 use crate::arguments::args::{
@@ -207,13 +207,14 @@ fn is_algorithm_search(matches: &ArgMatches<'_>) -> bool
 }
 
 /// A search of the algorithm with this text.
-fn algorithm_words(
+pub(crate) fn algorithm_search(
     alloc: Global,
     matches: &ArgMatches<'_>,
     algorithm: &str,
-) -> Result<Command, WordsFault>
+) -> Result<AlgorithmExploreArgs, WordsFault>
     requires { Some algorithm.now ≡ first_of (codes "algorithm") (given_in matches.now) }
-    ensures { ReadsCommand (codes "explore") (given_in matches.now) result }
+    ensures ok { IfOk result (IsAlgorithmExplore (given_in matches.now)) }
+    ensures bad { IfErr result (IsFaultOfSearch (given_in matches.now)) }
 {
     if is_given(matches, "variant") {
         return Err(WordsFault::BadVariant);
@@ -225,7 +226,8 @@ fn algorithm_words(
     }
     let calls = algorithm_calls_of(alloc, matches)?;
     let stuck = stuck_of(matches)?;
-    Ok(Command::ExploreAlgorithm(AlgorithmExploreArgs {
+    let jobs = number_of(matches, "jobs");
+    Ok(AlgorithmExploreArgs {
         algorithm: String::from_str(alloc, algorithm)?,
         procs: number_of(matches, "procs"),
         calls,
@@ -235,20 +237,25 @@ fn algorithm_words(
         limit: number_or(matches, "limit", 4),
         stuck,
         starving: starving_of(matches)?,
-    }))
+        jobs,
+    })
 }
 
 /// A search of a variant of the lock.
-fn variant_words(alloc: Global, matches: &ArgMatches<'_>) -> Result<Command, WordsFault>
+pub(crate) fn variant_search(
+    alloc: Global,
+    matches: &ArgMatches<'_>,
+) -> Result<ExploreArgs, WordsFault>
     requires { IsNone (first_of (codes "algorithm") (given_in matches.now)) }
-    ensures { ReadsCommand (codes "explore") (given_in matches.now) result }
+    ensures ok { IfOk result (IsExplore (given_in matches.now)) }
+    ensures bad { IfErr result (IsFaultOfSearch (given_in matches.now)) }
 {
     if !is_given(matches, "variant") {
         return Err(WordsFault::Refused {
             text: without_lock(alloc)?,
         });
     }
-    Ok(Command::Explore(ExploreArgs {
+    Ok(ExploreArgs {
         variant: variant_of(matches, "")?,
         procs: number_of(matches, "procs"),
         calls: alphabet_of(alloc, matches)?,
@@ -262,15 +269,18 @@ fn variant_words(alloc: Global, matches: &ArgMatches<'_>) -> Result<Command, Wor
         starving: starving_of(matches)?,
         all_variables: is_set(matches, "all-variables"),
         jobs: number_of(matches, "jobs"),
-    }))
+    })
 }
 
 /// A search of a variant of the lock, or of an algorithm.
+#[tactic(auto, using(crate::proofs::Answered::explore_refused))]
 pub(crate) fn explore_words(alloc: Global, matches: &ArgMatches<'_>) -> Result<Command, WordsFault>
     ensures { ReadsCommand (codes "explore") (given_in matches.now) result }
 {
     match str_of(matches, "algorithm") {
-        Some(algorithm) => algorithm_words(alloc, matches, algorithm),
-        None => variant_words(alloc, matches),
+        Some(algorithm) => Ok(Command::ExploreAlgorithm(algorithm_search(
+            alloc, matches, algorithm,
+        )?)),
+        None => Ok(Command::Explore(variant_search(alloc, matches)?)),
     }
 }

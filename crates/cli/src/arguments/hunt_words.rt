@@ -44,14 +44,17 @@ fn algorithm_words(
         return Err(WordsFault::BadVariant);
     }
     let (rounds, steps) = sizes_of(matches)?;
+    let first_round = number_of(matches, "first-round");
     Ok(Command::HuntAlgorithm(AlgorithmHuntArgs {
         algorithm: String::from_str(alloc, algorithm)?,
         procs: number_or(matches, "procs", 2),
         limit: number_or(matches, "limit", 1_000_000),
         seed: number_of(matches, "seed"),
+        first_round,
         rounds,
         steps,
         shrink: is_set(matches, "shrink"),
+        jobs: number_of(matches, "jobs"),
     }))
 }
 
@@ -74,6 +77,7 @@ fn variant_words(alloc: Global, matches: &ArgMatches<'_>) -> Result<Command, Wor
     Ok(Command::Hunt(HuntArgs {
         variant,
         seed: number_of(matches, "seed"),
+        first_round: number_of(matches, "first-round"),
         rounds,
         steps,
         shrink: is_set(matches, "shrink"),

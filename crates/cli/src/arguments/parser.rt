@@ -1,7 +1,7 @@
 //! The command line for `clap`: its commands, their options and their help.
 
 ghost use Rattle.std.specs.Prelude.{map, IfOk};
-ghost use Rattle.cli.specs.CommandLine.{IsParser, app_of_shape, part, shape_of_part, with_subcommands, rule_of_argument, head, replay, run, hunt, explore, judge, draw, shrink, step, explain, rmelab};
+ghost use Rattle.cli.specs.CommandLine.{IsParser, app_of_shape, part, shape_of_part, with_subcommands, rule_of_argument, head, replay, run, hunt, explore, states, judge, draw, shrink, step, explain, rmelab};
 
 use crate::arguments::argument::{Argument, ArgumentForm};
 use clap::Command as Parser;
@@ -15,9 +15,9 @@ const REPLAY_HELP: &str =
     "In: a schedule: a header such as `rme 1 procs 2 limit 10 cap 1`, then lines such as `lock 0`, `step 0 5`, `crash \
 0`, each ended by a line feed. With --algorithm the algorithm's text is read first: docs/use/algorithms.md.\nOut: its \
 report: the deeds and answers of each step, the last words, the mailbox and the verdict; with --each --json an object \
-for each step, between the images before and after them, and the verdict.\nExit status: 0 if the verdict is fine, 1 if \
-it is against, 2 after a fault of the words, the schedule, the algorithm or the image, 3 after a fault of a device or \
-of memory.\n\nExample: rmelab replay examples/tie.rme";
+for each step, between the images before and after them or, of an algorithm, before its last words, and the \
+verdict.\nExit status: 0 if the verdict is fine, 1 if it is against, 2 after a fault of the words, the schedule, the \
+algorithm or the image, 3 after a fault of a device or of memory.\n\nExample: rmelab replay examples/tie.rme";
 
 const RUN_HELP: &str =
     "In: nothing. Each sender sends its messages through one running lock, on a thread of its own, and sends a message \
@@ -26,8 +26,7 @@ and the total.\nExit status: 0 if each message is there once and in order, 1 if 
 after a fault of a device, of memory or of a sender.\n\nExample: rmelab run --procs 4 --messages 50 --crash 20 --seed 7";
 
 const HUNT_HELP: &str =
-    "In: nothing; with --algorithm the algorithm's text: docs/use/algorithms.md. An algorithm is hunted by one \
-thread.\nOut: the schedule found, which `rmelab replay` with the same --variant or --algorithm replays to its fault, \
+    "In: nothing; with --algorithm the algorithm's text: docs/use/algorithms.md.\nOut: the schedule found, which `rmelab replay` with the same --variant or --algorithm replays to its fault, \
 or `nothing found`.\nShown: on standard error, if that is a terminal, the rounds, the moves and the moves a second, \
 once a second while it works.\nExit status: 0 if nothing was found, 1 if a schedule was, 2 after a \
 fault of the words or the algorithm, 3 after a fault of a device or of memory.\n\nExample: rmelab hunt --variant \
@@ -38,19 +37,32 @@ const EXPLORE_HELP: &str =
 are the start of a call of --calls, one step, or a crash, of which there are at most --crashes: the shorter before \
 the longer. Two worlds are one state if their words, their processes, the judge and the crashes left are the same; \
 with --starving the judge is left out. Of a process those variables count that a move may still read; all do with \
---all-variables or, of a variant, --stuck or --starving. An algorithm is searched by one thread.\nOut: the schedule \
-of fewest moves that goes wrong, which `rmelab replay` with the same --variant or --algorithm replays to its fault; \
-`nothing found within K moves`; or, if all was tried, `nothing found: all N states`; of an algorithm with moves to \
-values out of range `nothing found: all N states, M moves left out from line L`. With --stuck, if none goes wrong: \
-the schedule of fewest moves to a state from which no starts and steps bring each process to rest with all lock \
-words 0, unless by an unlock that ruins the lock, or, of an algorithm, to rest outside and not in line; it replays \
-to a fine verdict; or `never stuck: all N states`. With --starving, whatever goes wrong: a schedule of fewest moves \
-that ends with a cycle in which a process starves, and the line `starves P cycle K`: process P, in the last K moves; \
-or `never starving: all N states`. With --stuck and --starving: both. Nothing is said of a greater size, limit or \
-number of crashes.\nShown: on standard error, if that is a terminal, the states, how many moves deep and the states \
-a second, once a second while it works.\nExit status: 0 if nothing was found, 1 if a schedule was, 2 after a fault \
-of the words or the algorithm, 3 after one of a device or of memory, or if there are more states than \
---states.\n\nExample: rmelab explore --variant no-look --procs 2";
+--all-variables or, of a variant, --stuck or --starving.\nOut: the schedule of fewest moves that goes wrong, which \
+`rmelab replay` with the same --variant or --algorithm replays to its fault; `nothing found within K moves`; or, if \
+all was tried, `nothing found: all N states`; of an algorithm with moves to values out of range `nothing found: all \
+N states, M moves left out from line L`. With --stuck, if none goes wrong: the schedule of fewest moves to a state \
+from which no starts and steps bring each process to rest with all lock words 0, unless by an unlock that ruins the \
+lock, or, of an algorithm, to rest outside and not in line; it replays to a fine verdict; or `never stuck: all N \
+states`. With --starving, whatever goes wrong: a schedule of fewest moves that ends with a cycle in which a process \
+starves, and the line `starves P cycle K`: process P, in the last K moves; or `never starving: all N states`. With \
+--stuck and --starving: both. Nothing is said of a greater size, limit or number of crashes.\nShown: on standard \
+error, if that is a terminal, the states, how many moves deep and the states a second, once a second while it \
+works.\nExit status: 0 if nothing was found, 1 if a schedule was, 2 after a fault of the words or the algorithm, 3 \
+after one of a device or of memory, or if there are more states than --states.\n\nExample: rmelab explore --variant \
+no-look --procs 2";
+
+const STATES_HELP: &str =
+    "In: nothing for first; else texts of states: a header and then a line for each state, as first writes them; with \
+--algorithm the algorithm's text first: docs/use/algorithms.md. expand, check: one text. lead: a set of states, and \
+then the states that are tried. walk: the sets that a schedule leads through, without that of the first state. The \
+states are those that explore tries, by all variables.\nOut: of first the header and the line of the first state; of \
+expand the header and a line for each move of each state, in the order of the lines and of the moves: that of its \
+successor or, if the move goes wrong, `#` and its own; of lead the header and the lines of the states from which a \
+move leads into the set; of check `closed: N states` if the first state is in the set, no move from it goes wrong \
+and each leads into it, or else why it is not closed; of walk the first schedule through the sets that then goes \
+wrong. docs/use/states.md has all of it.\nExit status: 0 if that was written, 1 if a set is not closed or a schedule \
+was written, 2 after a fault of the words, the algorithm or a line, 3 after a fault of a device or of \
+memory.\n\nExample: rmelab states first --variant no-look --procs 2";
 
 const JUDGE_HELP: &str =
     "In: a trace: a header such as `trace 1 procs 2 cap 1`, then deeds such as `begin 0`, `ready 0`, `enter 0`.\nOut: \
@@ -80,11 +92,11 @@ memory.\n\nExample: rmelab explain fault 5";
 
 const STEP_HELP: &str =
     "In: lines of a schedule, and undo, redo, to answer P, save FILE, help and quit, each answered at once. Without \
-FILE the first line is a header. With --algorithm the algorithm's text is read first, and there is no FILE: \
-docs/use/algorithms.md.\nOut: for a line of a schedule each of its steps, as replay --each prints them; then the words \
-of each process, their row of the restart table, its state, and who is inside. A line that is refused or can't be read \
-gets its fault, and changes nothing.\nExit status: 0 at the end of the session, 2 if it can't begin, 3 after a fault \
-of a device or of memory.\n\nExample: rmelab step examples/tie.rme";
+FILE the first line is a header. With --algorithm the algorithm's text is read first: docs/use/algorithms.md.\nOut: \
+for a line of a schedule each of its steps, as replay --each prints them; then the words of each process, their row \
+of the restart table, its state, and who is inside. A line that is refused or can't be read gets its fault, and \
+changes nothing.\nExit status: 0 at the end of the session, 2 if it can't begin, 3 after a fault of a device or of \
+memory.\n\nExample: rmelab step examples/tie.rme";
 
 /// What `--version` prints.
 const VERSION: &str = "0.1.0";
@@ -163,6 +175,11 @@ fn hunt<'a>(alloc: Global) -> Result<Parser<'a>, AllocError>
             "Numbers up to L; 1000000 without it; with --algorithm alone",
         ),
         Argument::number("seed", "S", "The seed of the moves").as_required(),
+        Argument::number(
+            "first-round",
+            "A",
+            "Begin with round A, by one thread; 0 without it",
+        ),
         Argument::number("rounds", "R", "1 to 10000 rounds").as_required(),
         Argument::number("steps", "K", "1 to 10000 moves a round").as_required(),
         Argument::flag("shrink", "Minimize the schedule found, as `shrink` does"),
@@ -216,6 +233,47 @@ fn explore<'a>(alloc: Global) -> Result<Parser<'a>, AllocError>
     command(alloc, "explore", about, EXPLORE_HELP, &arguments)
 }
 
+/// The parser of `states`, with its help.
+fn states<'a>(alloc: Global) -> Result<Parser<'a>, AllocError>
+    ensures { IfOk result (IsParser (app_of_shape states)) }
+{
+    let about = "Writes and checks the states of a search as lines of a text";
+    let calls = "The calls that are started, as for `explore`";
+    let arguments = [
+        Argument::tool().as_required(),
+        Argument::variant(),
+        Argument::algorithm(),
+        Argument::number("procs", "N", "1 to 64 processes").as_required(),
+        Argument::text("calls", "LIST", calls),
+        Argument::number("crashes", "C", "At most C crashes; 0 without it"),
+        Argument::number("limit", "L", "Numbers up to L; 4 without it"),
+        Argument::number(
+            "cap",
+            "M",
+            "Room for M messages; 1 without it; not with --algorithm",
+        ),
+        Argument::number(
+            "width",
+            "W",
+            "1 to 8 words a message; 1 without it; not with --algorithm",
+        ),
+        Argument::number(
+            "words",
+            "K",
+            "Room for K words a state; without it, or 0, 24 more than the first has, and 8 a process",
+        ),
+        Argument::number("digits", "D", "1 to 10 characters a word; 2 without it"),
+        Argument::number(
+            "part",
+            "I",
+            "Check moves into part I of all states; 0 without it",
+        ),
+        Argument::number("parts", "P", "of P parts; 1 without it"),
+        Argument::file("The states; without it, standard input is read"),
+    ];
+    command(alloc, "states", about, STATES_HELP, &arguments)
+}
+
 /// The parser of `judge`, with its help.
 fn judge<'a>(alloc: Global) -> Result<Parser<'a>, AllocError>
     ensures { IfOk result (IsParser (app_of_shape judge)) }
@@ -238,10 +296,7 @@ fn draw<'a>(alloc: Global) -> Result<Parser<'a>, AllocError>
         Argument::algorithm(),
         Argument::image(),
         Argument::flag("svg", "Write a picture, as SVG"),
-        Argument::flag(
-            "html",
-            "Write a page that shows the run step by step; not with --algorithm",
-        ),
+        Argument::flag("html", "Write a page that shows the run step by step"),
         Argument::file("The schedule; without it, standard input is read"),
     ];
     command(alloc, "draw", about, DRAW_HELP, &arguments)
@@ -301,6 +356,7 @@ enum ParserPart {
     Run,
     Hunt,
     Explore,
+    States,
     Judge,
     Draw,
     Shrink,
@@ -309,11 +365,12 @@ enum ParserPart {
 }
 
 /// The commands, as the help lists them.
-const PARTS: [ParserPart; 9] = [
+const PARTS: [ParserPart; 10] = [
     ParserPart::Replay,
     ParserPart::Run,
     ParserPart::Hunt,
     ParserPart::Explore,
+    ParserPart::States,
     ParserPart::Judge,
     ParserPart::Draw,
     ParserPart::Shrink,
@@ -331,6 +388,7 @@ impl ParserPart {
             ParserPart::Run => run(alloc),
             ParserPart::Hunt => hunt(alloc),
             ParserPart::Explore => explore(alloc),
+            ParserPart::States => states(alloc),
             ParserPart::Judge => judge(alloc),
             ParserPart::Draw => draw(alloc),
             ParserPart::Shrink => shrink(alloc),

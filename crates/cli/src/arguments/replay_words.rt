@@ -10,15 +10,7 @@ use crate::arguments::words::{
     WordsFault, is_alone, is_set, str_of, text_of, variant_beside_image,
 };
 use clap::ArgMatches;
-use std::alloc::{AllocError, Global};
-
-/// The error text for an option that a run of an algorithm does not have.
-fn without_steps(alloc: Global) -> Result<String, AllocError> {
-    String::from_str(
-        alloc,
-        "error: with '--algorithm <FILE>' there is no '--json' and no '--each'\n\nFor more information, try '--help'.\n",
-    )
-}
+use std::alloc::Global;
 
 /// A replay on the algorithm with this text.
 fn algorithm_words(
@@ -32,13 +24,12 @@ fn algorithm_words(
     if !is_alone(matches) {
         return Err(WordsFault::BadVariant);
     }
-    if is_set(matches, "json") || is_set(matches, "each") {
-        return Err(WordsFault::Refused {
-            text: without_steps(alloc)?,
-        });
-    }
+    let json = is_set(matches, "json");
+    let each = is_set(matches, "each");
     Ok(Command::ReplayAlgorithm(AlgorithmReplayArgs {
         algorithm: String::from_str(alloc, algorithm)?,
+        json,
+        each,
         file: text_of(alloc, matches, "FILE")?,
     }))
 }

@@ -5,18 +5,10 @@ ghost use Rattle.clap.specs.Words.{first_of};
 ghost use Rattle.cli.specs.Given.{given_in};
 ghost use Rattle.cli.specs.ReadWords.{ReadsCommand};
 
-use crate::arguments::args::Command;
-use crate::arguments::words::{WordsFault, is_given, str_of, text_of};
+use crate::arguments::args::{AlgorithmStepArgs, Command};
+use crate::arguments::words::{WordsFault, str_of, text_of};
 use clap::ArgMatches;
-use std::alloc::{AllocError, Global};
-
-/// The error text for a schedule that a session on an algorithm is to begin with.
-fn without_beginning(alloc: Global) -> Result<String, AllocError> {
-    String::from_str(
-        alloc,
-        "error: with '--algorithm <FILE>' there is no '[FILE]'; the first line of the input is a header\n\nFor more information, try '--help'.\n",
-    )
-}
+use std::alloc::Global;
 
 /// A session on the algorithm with this text.
 fn algorithm_words(
@@ -27,12 +19,10 @@ fn algorithm_words(
     requires { Some algorithm.now ≡ first_of (codes "algorithm") (given_in matches.now) }
     ensures { ReadsCommand (codes "step") (given_in matches.now) result }
 {
-    if is_given(matches, "FILE") {
-        return Err(WordsFault::Refused {
-            text: without_beginning(alloc)?,
-        });
-    }
-    Ok(Command::StepAlgorithm(String::from_str(alloc, algorithm)?))
+    Ok(Command::StepAlgorithm(AlgorithmStepArgs {
+        algorithm: String::from_str(alloc, algorithm)?,
+        file: text_of(alloc, matches, "FILE")?,
+    }))
 }
 
 /// A session on the lock, or on an algorithm.

@@ -2,7 +2,7 @@
 
 ghost use Rattle.std.specs.Prelude.{◌≡◌, ◌≢◌, ◌↔◌, true, option_map, is_some, IfOk, IfErr, IfSome, IsNone, IsSomeAnd, IsOk, OnErr, IsErrOf, string_bytes, codes};
 ghost use Rattle.clap.specs.Words.{first_of, kind_of, subcommand_rows_of};
-ghost use Rattle.crashlab.specs.declared.variant.Variant.{Variant as AnyVariant};
+ghost use Rattle.crashlab.specs.declared.variants.variant.Variant.{Variant as AnyVariant};
 ghost use Rattle.cli.specs.declared.explain.dictionary_entry.DictionaryEntry.{DictionaryEntry as AnyDictionaryEntry};
 ghost use Rattle.cli.specs.Given.{given_in, is_set, number_or, word_of_variant, AsksFor, AsksForNone, entry_named};
 ghost use Rattle.cli.specs.Names.{name_of};
@@ -17,6 +17,7 @@ use crate::arguments::hunt_words::hunt_words;
 use crate::arguments::parser::parser;
 use crate::arguments::replay_words::replay_words;
 use crate::arguments::shrink_words::shrink_words;
+use crate::arguments::states_words::states_words;
 use crate::arguments::step_words::step_words;
 use crate::explain::dictionary_entry::{DictionaryEntry, dictionary_entry_named};
 use clap::error::ErrorKind;
@@ -34,16 +35,17 @@ pub enum WordsFault {
     #[error("{text}")]
     Help { text: String },
     /// The error text of `clap`, that the words name no entry, that an option is beside `--algorithm` which the command does not
-    /// have there, or that `explore`, `hunt` or `shrink` has neither a variant nor an algorithm. It is printed to standard error;
-    /// the exit status is 2.
+    /// have there, or that `explore`, `states`, `hunt` or `shrink` has neither a variant nor an algorithm. It is printed to
+    /// standard error; the exit status is 2.
     #[error("{text}")]
     Refused { text: String },
     /// There is no such variant, it isn't `right` and an image is given, or an algorithm is given beside a variant, an image or a
     /// file for the last image; the exit status is 2.
     #[error("bad variant")]
     BadVariant,
-    /// A number of `run` or `hunt` is outside its range, `--procs` or `--limit` of `hunt` is beside a variant, a call of `explore`
-    /// is none, or none of an algorithm, or `--stuck` is beside `--moves`; the exit status is 2.
+    /// A number of `run` or `hunt` is outside its range, `--procs` or `--limit` of `hunt` is beside a variant, a call of
+    /// `explore` or `states` is none, or none of an algorithm, `--stuck` is beside `--moves`, or `states` has no such tool; the
+    /// exit status is 2.
     #[error("bad size")]
     BadSize,
     /// A word isn't UTF-8 text.
@@ -271,6 +273,7 @@ fn command_of(alloc: Global, name: &str, matches: &ArgMatches<'_>) -> Result<Com
         "run" => run_words(matches),
         "hunt" => hunt_words(alloc, matches),
         "explore" => explore_words(alloc, matches),
+        "states" => states_words(alloc, matches),
         "draw" => draw_words(alloc, matches),
         "shrink" => shrink_words(alloc, matches),
         "explain" => explain_words(alloc, matches),
@@ -309,7 +312,8 @@ fn fault_of_error(alloc: Global, error: &Error) -> Result<WordsFault, AllocError
 
 /// Reads the words of a command line. The first word is the program's name. A refusal by `clap` is found first, then a bad
 /// variant, then a bad size. Words of `explain` that name no entry are refused in the same way as by `clap`; so are options beside
-/// `--algorithm` that the command does not have there, before a bad size, and `explore`, `hunt` or `shrink` with nothing to run.
+/// `--algorithm` that the command does not have there, before a bad size, and `explore`, `states`, `hunt` or `shrink` with nothing
+/// to run.
 pub fn read_words(alloc: Global, words: &[String]) -> Result<Command, WordsFault>
     ensures sized { IfOk result IsInRanges }
     ensures command { IfOk result (λ command. TakesWords (texts_of words.now) (λ name given. IsCommand name given command)) }

@@ -3,19 +3,24 @@
 ghost use Rattle.std.specs.Prelude.{◌≡◌, IfErr, IfOk, option_copied, false};
 ghost use Rattle.algorithms.specs.Ranked.{LocalLinesEnd, AccessesLeadOn};
 ghost use Rattle.algorithm_texts.specs.Programs.{SpellsAlgorithm};
-ghost use Rattle.commands.specs.AlgorithmReplays.{AlgorithmReplayEnds, fault_of_run, TellsAlgorithm};
+ghost use Rattle.algorithm_lab.specs.Replays.{run_of, WritesRunText};
+ghost use Rattle.commands.specs.AlgorithmReplays.{AlgorithmReplayEnds, fault_of_run, object_at_end, object_of_run, TellsAlgorithm, text_of_replay};
 ghost use Rattle.commands.specs.AlgorithmTexts.{IsAlgorithmFault, TellsFault, text_of as text_in};
 ghost use Rattle.commands.specs.Endings.{IsEnded};
+ghost use Rattle.diagram.specs.AlgorithmSteps.{IsRunText, text_on_new};
 
 use crate::algorithm_fault::fault_numbered;
 use crate::schedules::ending::{Ending, status_after_verdict};
 use crate::schedules::fault::CommandFault;
+use crate::schedules::json::report_object;
 use crate::schedules::play_start::schedule_read;
-use algorithm_lab::{AlgorithmReplayFault, replay_algorithm};
+use algorithm_lab::{AlgorithmReplayFault, Monitor, ReplayText, replay_algorithm, report_of_run};
 use algorithm_texts::read_algorithm;
 use algorithms::{Algorithm, AlgorithmFault};
-use schedule::{Schedule, Sink, Source};
-use std::alloc::Global;
+use cli::arguments::args::AlgorithmReplayArgs;
+use diagram::{follow_algorithm, follow_algorithm_as_lines};
+use schedule::{Schedule, Sink, Source, Verdict};
+use std::alloc::{AllocError, Global};
 
 /// The command's fault for a fault of an algorithm's text.
 #[tactic(auto, using(crate::proofs::AlgorithmTexts::tells_fault))]
@@ -46,7 +51,7 @@ pub(crate) fn replay_fault(fault: AlgorithmReplayFault) -> CommandFault
 }
 
 /// The text of an algorithm's file; without a file it is empty.
-fn text_of(text: Option<&[u8]>) -> &[u8]
+pub(crate) fn text_of(text: Option<&[u8]>) -> &[u8]
     ensures { result.now ≡ text_in (option_copied text.entry) }
 {
     match text {
@@ -68,17 +73,78 @@ pub(crate) fn algorithm_read(alloc: Global, text: Option<&[u8]>) -> Result<Algor
     }
 }
 
-/// Plays the schedule on the algorithm, and writes its report.
-fn replay_on_algorithm<W: Sink>(
+/// The report of a run as one JSON object. Where a line is refused there is none.
+fn object_text(alloc: Global, replay: &ReplayText) -> Result<Vec<u8>, AllocError>
+    ensures { IfOk result (λ text. text.items ≡ object_at_end replay.now.ended replay.now.text.items) }
+{
+    match replay.ended {
+        Ok(_) => report_object(alloc, replay.text.as_slice()),
+        Err(_) => Ok(Vec::new(alloc)),
+    }
+}
+
+/// The object of the schedule's run, and how the run ends.
+fn object_of_run(
+    alloc: Global,
+    monitor: Monitor,
+    schedule: &Schedule,
+) -> Result<ReplayText, AllocError>
+    ensures { IfOk result (λ object. IsRunText object_of_run monitor schedule.now.lines object.text.items object.ended) }
+{
+    let replay = report_of_run(alloc, monitor, schedule)?;
+    let text = object_text(alloc, &replay)?;
+    let ReplayText { ended, .. } = replay;
+    Ok(ReplayText { text, ended })
+}
+
+/// Plays the schedule on the algorithm, and writes the lines of its report as one JSON object. Where a line is refused it writes
+/// nothing.
+fn replay_object<W: Sink>(
     alloc: Global,
     algorithm: Algorithm,
     schedule: &Schedule,
     w: &mut W,
+) -> Result<Verdict, AlgorithmReplayFault>
+    ensures { WritesRunText (W.tape w.old) (W.tape w.new) (text_on_new object_of_run algorithm schedule.now)
+        (run_of algorithm schedule.now.procs schedule.now.limit schedule.now.lines) result }
+{
+    let monitor = Monitor::of_schedule(alloc, algorithm, schedule)?;
+    let object = object_of_run(alloc, monitor, schedule)?;
+    object.write_to(w)
+}
+
+/// Plays the schedule on the algorithm, and writes its report, or each step, in words or as JSON.
+fn report<W: Sink>(
+    alloc: Global,
+    algorithm: Algorithm,
+    schedule: &Schedule,
+    each: bool,
+    json: bool,
+    w: &mut W,
+) -> Result<Verdict, AlgorithmReplayFault>
+    ensures { WritesRunText (W.tape w.old) (W.tape w.new) (text_of_replay each json algorithm schedule.now)
+        (run_of algorithm schedule.now.procs schedule.now.limit schedule.now.lines) result }
+{
+    match (each, json) {
+        (true, true) => follow_algorithm_as_lines(alloc, algorithm, schedule, w),
+        (true, false) => follow_algorithm(alloc, algorithm, schedule, w),
+        (false, true) => replay_object(alloc, algorithm, schedule, w),
+        (false, false) => replay_algorithm(alloc, algorithm, schedule, w),
+    }
+}
+
+/// Plays the schedule on the algorithm, and writes what is asked for.
+fn replay_on_algorithm<W: Sink>(
+    alloc: Global,
+    algorithm: Algorithm,
+    schedule: &Schedule,
+    args: &AlgorithmReplayArgs,
+    w: &mut W,
 ) -> Result<Ending, CommandFault>
-    ensures reports { TellsAlgorithm algorithm schedule.now (W.tape w.old) (W.tape w.new) result }
+    ensures reports { TellsAlgorithm args.now algorithm schedule.now (W.tape w.old) (W.tape w.new) result }
     ensures ended { IfOk result (IsEnded false (W.tape w.old).failures (W.tape w.new).failures) }
 {
-    match replay_algorithm(alloc, algorithm, schedule, w) {
+    match report(alloc, algorithm, schedule, args.each, args.json, w) {
         Ok(verdict) => Ok(Ending {
             status: status_after_verdict(verdict),
             save: None,
@@ -92,14 +158,16 @@ fn replay_on_algorithm<W: Sink>(
 #[tactic(auto, using(crate::proofs::AlgorithmTexts::no_algorithm))]
 pub fn algorithm_replay_command<R: Source, W: Sink>(
     alloc: Global,
+    args: &AlgorithmReplayArgs,
     text: Option<&[u8]>,
     r: &mut R,
     w: &mut W,
 ) -> Result<Ending, CommandFault>
-    ensures ends { AlgorithmReplayEnds (option_copied text.entry) (R.reading r.old) (R.reading r.new) (W.tape w.old) (W.tape w.new) result }
+    ensures ends { AlgorithmReplayEnds args.now (option_copied text.entry) (R.reading r.old) (R.reading r.new) (W.tape w.old)
+        (W.tape w.new) result }
     ensures ended { IfOk result (IsEnded false (W.tape w.old).failures (W.tape w.new).failures) }
 {
     let algorithm = algorithm_read(alloc, text)?;
     let schedule = schedule_read(alloc, r)?;
-    replay_on_algorithm(alloc, algorithm, &schedule, w)
+    replay_on_algorithm(alloc, algorithm, &schedule, args, w)
 }

@@ -1,7 +1,7 @@
 //! The command `draw` on an algorithm's text.
 
 ghost use Rattle.std.specs.Prelude.{IfOk, option_copied, false};
-ghost use Rattle.commands.specs.AlgorithmDraws.{AlgorithmDrawEnds, DrawsAlgorithm};
+ghost use Rattle.commands.specs.AlgorithmDraws.{AlgorithmDrawEnds, DrawsAlgorithm, WritesDrawing};
 ghost use Rattle.commands.specs.Endings.{IsEnded};
 
 use crate::schedules::algorithm::{algorithm_read, replay_fault};
@@ -9,24 +9,42 @@ use crate::schedules::drawn::style_of;
 use crate::schedules::ending::{Ending, status_after_verdict};
 use crate::schedules::fault::CommandFault;
 use crate::schedules::play_start::schedule_read;
+use algorithm_lab::AlgorithmReplayFault;
 use algorithms::Algorithm;
 use cli::arguments::args::AlgorithmDrawArgs;
-use diagram::draw_algorithm;
-use schedule::{Schedule, Sink, Source};
+use diagram::{draw_algorithm, write_algorithm_page};
+use schedule::{Schedule, Sink, Source, Verdict};
 use std::alloc::Global;
 
-/// Plays the schedule on the algorithm, and writes the drawing of its run.
+/// Plays the schedule on the algorithm, and writes the drawing of its run, or its page.
+fn write_run<W: Sink>(
+    alloc: Global,
+    algorithm: Algorithm,
+    schedule: &Schedule,
+    html: bool,
+    svg: bool,
+    w: &mut W,
+) -> Result<Verdict, AlgorithmReplayFault>
+    ensures { WritesDrawing html svg algorithm schedule.now (W.tape w.old) (W.tape w.new) result }
+{
+    if html {
+        return write_algorithm_page(alloc, algorithm, schedule, w);
+    }
+    draw_algorithm(alloc, algorithm, schedule, style_of(svg), w)
+}
+
+/// Plays the schedule on the algorithm, and writes what is asked for.
 fn draw_on_algorithm<W: Sink>(
     alloc: Global,
     algorithm: Algorithm,
     schedule: &Schedule,
-    svg: bool,
+    args: &AlgorithmDrawArgs,
     w: &mut W,
 ) -> Result<Ending, CommandFault>
-    ensures reports { DrawsAlgorithm svg algorithm schedule.now (W.tape w.old) (W.tape w.new) result }
+    ensures reports { DrawsAlgorithm args.now algorithm schedule.now (W.tape w.old) (W.tape w.new) result }
     ensures ended { IfOk result (IsEnded false (W.tape w.old).failures (W.tape w.new).failures) }
 {
-    match draw_algorithm(alloc, algorithm, schedule, style_of(svg), w) {
+    match write_run(alloc, algorithm, schedule, args.html, args.svg, w) {
         Ok(verdict) => Ok(Ending {
             status: status_after_verdict(verdict),
             save: None,
@@ -45,11 +63,11 @@ pub fn algorithm_draw_command<R: Source, W: Sink>(
     r: &mut R,
     w: &mut W,
 ) -> Result<Ending, CommandFault>
-    ensures ends { AlgorithmDrawEnds args.now.svg (option_copied text.entry) (R.reading r.old) (R.reading r.new) (W.tape w.old)
+    ensures ends { AlgorithmDrawEnds args.now (option_copied text.entry) (R.reading r.old) (R.reading r.new) (W.tape w.old)
         (W.tape w.new) result }
     ensures ended { IfOk result (IsEnded false (W.tape w.old).failures (W.tape w.new).failures) }
 {
     let algorithm = algorithm_read(alloc, text)?;
     let schedule = schedule_read(alloc, r)?;
-    draw_on_algorithm(alloc, algorithm, &schedule, args.svg, w)
+    draw_on_algorithm(alloc, algorithm, &schedule, args, w)
 }

@@ -4,6 +4,7 @@ ghost use Rattle.std.specs.Prelude.{◌≡◌, ◌≤◌};
 ghost use Rattle.commands.specs.declared.schedules.fault.CommandFault.TheVariants.{OutOfMemory};
 ghost use Rattle.commands.specs.Statuses.{fault_of_replay, fault_of_text};
 
+use crate::states::states_fault::StatesFault;
 use algorithms::ReadFault;
 use schedule::{OutOfMemory as NoMemory, ReplayFault, TextFault};
 use std::alloc::{AllocError, AllocFailed};
@@ -24,12 +25,15 @@ pub enum CommandFault {
     /// This line of the algorithm's text is at fault; lines count from 1.
     #[error("algorithm line {line}: {fault}")]
     Algorithm { line: u64, fault: ReadFault },
+    /// This line of a text of states is at fault; lines count from 1.
+    #[error("states line {line}: {fault}")]
+    States { line: u64, fault: StatesFault },
     /// There is no such variant, it isn't `right` beside an image, or it, an image or a file for the last image is beside an
     /// algorithm.
     #[error("bad variant")]
     BadVariant,
-    /// A number is outside its range or beside what it doesn't go with, a call of `explore` is none, or the algorithm is not for
-    /// this number of processes.
+    /// A number is outside its range or beside what it doesn't go with, a call of `explore` or a tool of `states` is none, or the
+    /// algorithm is not for this number of processes.
     #[error("bad size")]
     BadSize,
     /// There is no such file, or reading from a device failed.
@@ -62,6 +66,7 @@ impl CommandFault {
             | CommandFault::Refused { .. }
             | CommandFault::Image { .. }
             | CommandFault::Algorithm { .. }
+            | CommandFault::States { .. }
             | CommandFault::BadVariant
             | CommandFault::BadSize => 2,
             CommandFault::Read

@@ -6,10 +6,12 @@ ghost use Rattle.commands.specs.AlgorithmExplores.{all_line_but};
 ghost use Rattle.commands.specs.AlgorithmFaults.{number_of_text_fault, sentence_of};
 ghost use Rattle.commands.specs.Lines.{fault_line, IsLineWritten};
 ghost use Rattle.commands.specs.Starvation.{starves_line as starves_line_by};
+ghost use Rattle.commands.specs.StatesFaults.{number_of_states_fault, sentence_of_states_fault};
 ghost use Rattle.commands.specs.Statuses.{status_of};
 
 use crate::algorithm_fault::{number_of_text_fault, sentence_of};
 use crate::schedules::fault::CommandFault;
+use crate::states::states_fault::StatesFault;
 use algorithm_explorer::LeftOut;
 use algorithms::ReadFault;
 use arrayvec::ArrayString;
@@ -49,6 +51,20 @@ fn line_of_algorithm(at: u64, fault: ReadFault) -> ArrayString<128>
     put(&mut line, ": fault ", number_of_text_fault(fault));
     line.push_str(": ");
     line.push_str(sentence_of(fault));
+    line.push_str("\n");
+    line
+}
+
+/// The line for a fault of a line of states.
+fn line_of_states(at: u64, fault: StatesFault) -> ArrayString<128>
+    ensures { result.bytes ≡ codes "rmelab: states line " ++ decimal at ++ codes ": fault " ++ decimal (number_of_states_fault fault)
+        ++ codes ": " ++ sentence_of_states_fault fault ++ 10 ∷ [] }
+{
+    let mut line = ArrayString::new();
+    put(&mut line, "rmelab: states line ", at);
+    put(&mut line, ": fault ", fault.number());
+    line.push_str(": ");
+    line.push_str(fault.sentence());
     line.push_str("\n");
     line
 }
@@ -106,6 +122,7 @@ pub fn line_of(fault: CommandFault) -> ArrayString<128>
         CommandFault::Text { line, number } => line_of_place(line, ": fault ", number),
         CommandFault::Refused { line, number } => line_of_place(line, ": refused ", number),
         CommandFault::Algorithm { line, fault } => line_of_algorithm(line, fault),
+        CommandFault::States { line, fault } => line_of_states(line, fault),
         CommandFault::Image { rule } => line_around("rmelab: image: rule ", rule, "\n"),
         CommandFault::Member { p } => line_around("rmelab: member ", p, " failed\n"),
         CommandFault::BadVariant => line_of_text("rmelab: bad variant\n"),

@@ -9,7 +9,7 @@ ghost use Rattle.rmeworld.specs.ImageRules.{IsLawfulImage};
 ghost use Rattle.rmeworld.specs.ImageStart.{IsStartOf};
 ghost use Rattle.rmeworld.specs.ImageWiden.{IsWider};
 ghost use Rattle.rmeworld.specs.WorldState.{image_world as world_of_image, new_refusal, new_world as world_of_sizes};
-ghost use Rattle.crashlab.specs.VariantWorlds.{new_world as world_of_variant};
+ghost use Rattle.crashlab.specs.variants.VariantWorlds.{new_world as world_of_variant};
 ghost use Rattle.schedule.specs.Schedules.{schedule_at};
 ghost use Rattle.commands.specs.Endings.{FailsToRead};
 ghost use Rattle.commands.specs.Settings.{CanFit, IsFitting, IsMadeFit, IsMisfit, IsPicture, IsUnmade, IsWrongText, IsWrongImage};

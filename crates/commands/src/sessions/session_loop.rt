@@ -23,7 +23,7 @@ use schedule::{Page, ReplayFault, Schedule, Sink, Source, read_schedule, replay_
 use std::alloc::Global;
 
 /// The first line of the input, with its LF; without a line all of the input. It is the text of a session's header.
-pub(crate) fn header_text<R: Source>(
+fn header_text<R: Source>(
     alloc: Global,
     r: &mut R,
     buffer: &mut Vec<u8>,
@@ -42,7 +42,7 @@ pub(crate) fn header_text<R: Source>(
 }
 
 /// The text of the schedule that a session begins with.
-fn first_text<R: Source>(
+pub(crate) fn first_text<R: Source>(
     alloc: Global,
     start: Option<&[u8]>,
     r: &mut R,

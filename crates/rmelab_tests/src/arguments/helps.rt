@@ -14,6 +14,7 @@ Commands:
   run      Runs senders on threads, with drawn crashes, and counts their messages
   hunt     Draws schedules until a variant of the lock, or an algorithm, goes wrong
   explore  Tries all schedules up to a bound, for the shortest that goes wrong
+  states   Writes and checks the states of a search as lines of a text
   judge    Judges a trace of deeds, and prints the verdict
   draw     Draws the run of a schedule as a space-time diagram
   shrink   Minimizes a schedule that goes wrong on a variant of the lock, or on an algorithm
@@ -65,7 +66,7 @@ Options:
   -h, --help              Print help
 
 In: a schedule: a header such as `rme 1 procs 2 limit 10 cap 1`, then lines such as `lock 0`, `step 0 5`, `crash 0`, each ended by a line feed. With --algorithm the algorithm's text is read first: docs/use/algorithms.md.
-Out: its report: the deeds and answers of each step, the last words, the mailbox and the verdict; with --each --json an object for each step, between the images before and after them, and the verdict.
+Out: its report: the deeds and answers of each step, the last words, the mailbox and the verdict; with --each --json an object for each step, between the images before and after them or, of an algorithm, before its last words, and the verdict.
 Exit status: 0 if the verdict is fine, 1 if it is against, 2 after a fault of the words, the schedule, the algorithm or the image, 3 after a fault of a device or of memory.
 
 Example: rmelab replay examples/tie.rme
@@ -98,13 +99,14 @@ Options:
       --procs <N>         1 to 64 processes; 2 without it; with --algorithm alone
       --limit <L>         Numbers up to L; 1000000 without it; with --algorithm alone
       --seed <S>          The seed of the moves
+      --first-round <A>   Begin with round A, by one thread; 0 without it
       --rounds <R>        1 to 10000 rounds
       --steps <K>         1 to 10000 moves a round
       --shrink            Minimize the schedule found, as `shrink` does
       --jobs <N>          N threads at once; without it, or 0, as many as there are processors
   -h, --help              Print help
 
-In: nothing; with --algorithm the algorithm's text: docs/use/algorithms.md. An algorithm is hunted by one thread.
+In: nothing; with --algorithm the algorithm's text: docs/use/algorithms.md.
 Out: the schedule found, which `rmelab replay` with the same --variant or --algorithm replays to its fault, or `nothing found`.
 Shown: on standard error, if that is a terminal, the rounds, the moves and the moves a second, once a second while it works.
 Exit status: 0 if nothing was found, 1 if a schedule was, 2 after a fault of the words or the algorithm, 3 after a fault of a device or of memory.
@@ -132,12 +134,41 @@ Options:
       --jobs <N>          N threads at once; without it, or 0, as many as there are processors
   -h, --help              Print help
 
-In: nothing; with --algorithm the algorithm's text: docs/use/algorithms.md. All schedules are tried whose moves are the start of a call of --calls, one step, or a crash, of which there are at most --crashes: the shorter before the longer. Two worlds are one state if their words, their processes, the judge and the crashes left are the same; with --starving the judge is left out. Of a process those variables count that a move may still read; all do with --all-variables or, of a variant, --stuck or --starving. An algorithm is searched by one thread.
+In: nothing; with --algorithm the algorithm's text: docs/use/algorithms.md. All schedules are tried whose moves are the start of a call of --calls, one step, or a crash, of which there are at most --crashes: the shorter before the longer. Two worlds are one state if their words, their processes, the judge and the crashes left are the same; with --starving the judge is left out. Of a process those variables count that a move may still read; all do with --all-variables or, of a variant, --stuck or --starving.
 Out: the schedule of fewest moves that goes wrong, which `rmelab replay` with the same --variant or --algorithm replays to its fault; `nothing found within K moves`; or, if all was tried, `nothing found: all N states`; of an algorithm with moves to values out of range `nothing found: all N states, M moves left out from line L`. With --stuck, if none goes wrong: the schedule of fewest moves to a state from which no starts and steps bring each process to rest with all lock words 0, unless by an unlock that ruins the lock, or, of an algorithm, to rest outside and not in line; it replays to a fine verdict; or `never stuck: all N states`. With --starving, whatever goes wrong: a schedule of fewest moves that ends with a cycle in which a process starves, and the line `starves P cycle K`: process P, in the last K moves; or `never starving: all N states`. With --stuck and --starving: both. Nothing is said of a greater size, limit or number of crashes.
 Shown: on standard error, if that is a terminal, the states, how many moves deep and the states a second, once a second while it works.
 Exit status: 0 if nothing was found, 1 if a schedule was, 2 after a fault of the words or the algorithm, 3 after one of a device or of memory, or if there are more states than --states.
 
 Example: rmelab explore --variant no-look --procs 2
+@row rmelab states --help @out
+Writes and checks the states of a search as lines of a text
+
+Usage: rmelab states [OPTIONS] --procs <N> <TOOL> [FILE]
+
+Arguments:
+  <TOOL>  first, expand, lead, check or walk
+  [FILE]  The states; without it, standard input is read
+
+Options:
+      --variant <V>       right, no-look, no-ties, renumber, exit-on-crash, count-up or last-skipped
+      --algorithm <FILE>  Run this algorithm, a text, in place of a variant
+      --procs <N>         1 to 64 processes
+      --calls <LIST>      The calls that are started, as for `explore`
+      --crashes <C>       At most C crashes; 0 without it
+      --limit <L>         Numbers up to L; 4 without it
+      --cap <M>           Room for M messages; 1 without it; not with --algorithm
+      --width <W>         1 to 8 words a message; 1 without it; not with --algorithm
+      --words <K>         Room for K words a state; without it, or 0, 24 more than the first has, and 8 a process
+      --digits <D>        1 to 10 characters a word; 2 without it
+      --part <I>          Check moves into part I of all states; 0 without it
+      --parts <P>         of P parts; 1 without it
+  -h, --help              Print help
+
+In: nothing for first; else texts of states: a header and then a line for each state, as first writes them; with --algorithm the algorithm's text first: docs/use/algorithms.md. expand, check: one text. lead: a set of states, and then the states that are tried. walk: the sets that a schedule leads through, without that of the first state. The states are those that explore tries, by all variables.
+Out: of first the header and the line of the first state; of expand the header and a line for each move of each state, in the order of the lines and of the moves: that of its successor or, if the move goes wrong, `#` and its own; of lead the header and the lines of the states from which a move leads into the set; of check `closed: N states` if the first state is in the set, no move from it goes wrong and each leads into it, or else why it is not closed; of walk the first schedule through the sets that then goes wrong. docs/use/states.md has all of it.
+Exit status: 0 if that was written, 1 if a set is not closed or a schedule was written, 2 after a fault of the words, the algorithm or a line, 3 after a fault of a device or of memory.
+
+Example: rmelab states first --variant no-look --procs 2
 @row rmelab judge --help @out JUDGE
 @row rmelab draw --help @out
 Draws the run of a schedule as a space-time diagram
@@ -152,7 +183,7 @@ Options:
       --algorithm <FILE>  Run this algorithm, a text, in place of a variant
       --image <FILE>      Begin with the words of this image, every process crashed
       --svg               Write a picture, as SVG
-      --html              Write a page that shows the run step by step; not with --algorithm
+      --html              Write a page that shows the run step by step
   -h, --help              Print help
 
 In: a schedule: a header such as `rme 1 procs 2 limit 10 cap 1`, then lines such as `lock 0`, `step 0 5`, `crash 0`, each ended by a line feed. With --algorithm the algorithm's text is read first: docs/use/algorithms.md.
@@ -190,7 +221,7 @@ Options:
       --algorithm <FILE>  Run this algorithm, a text, in place of a variant
   -h, --help              Print help
 
-In: lines of a schedule, and undo, redo, to answer P, save FILE, help and quit, each answered at once. Without FILE the first line is a header. With --algorithm the algorithm's text is read first, and there is no FILE: docs/use/algorithms.md.
+In: lines of a schedule, and undo, redo, to answer P, save FILE, help and quit, each answered at once. Without FILE the first line is a header. With --algorithm the algorithm's text is read first: docs/use/algorithms.md.
 Out: for a line of a schedule each of its steps, as replay --each prints them; then the words of each process, their row of the restart table, its state, and who is inside. A line that is refused or can't be read gets its fault, and changes nothing.
 Exit status: 0 at the end of the session, 2 if it can't begin, 3 after a fault of a device or of memory.
 
@@ -235,7 +266,7 @@ Usage: rmelab replay [OPTIONS] [FILE]
 For more information, try '--help'.
 @row rmelab @ends 2 @err
 error: 'rmelab' requires a subcommand but one was not provided
-  [subcommands: replay, run, hunt, explore, judge, draw, shrink, step, explain, help]
+  [subcommands: replay, run, hunt, explore, states, judge, draw, shrink, step, explain, help]
 
 Usage: rmelab <COMMAND>
 

@@ -38,10 +38,17 @@ rmelab draw --variant right --image a.json
 Draw(DrawArgs { html: false, svg: false, variant: Right, image: Some(\"a.json\"), file: None })
 
 rmelab hunt --variant last-skipped --seed 1 --rounds 10000 --steps 10000
-Hunt(HuntArgs { variant: LastSkipped, seed: 1, rounds: 10000, steps: 10000, shrink: false, jobs: 0 })
+Hunt(HuntArgs { variant: LastSkipped, seed: 1, first_round: 0, rounds: 10000, steps: 10000, shrink: false, jobs: 0 })
 
 rmelab hunt --variant last-skipped --seed 1 --rounds 10000 --steps 10000 --jobs 7
-Hunt(HuntArgs { variant: LastSkipped, seed: 1, rounds: 10000, steps: 10000, shrink: false, jobs: 7 })
+Hunt(HuntArgs { variant: LastSkipped, seed: 1, first_round: 0, rounds: 10000, steps: 10000, shrink: false, jobs: 7 })
+
+rmelab hunt --variant no-look --seed 1 --first-round 40 --rounds 10 --steps 20
+Hunt(HuntArgs { variant: NoLook, seed: 1, first_round: 40, rounds: 10, steps: 20, shrink: false, jobs: 0 })
+
+rmelab hunt --algorithm a.lock --seed 1 --first-round 40 --rounds 10 --steps 20 --jobs 7
+HuntAlgorithm(AlgorithmHuntArgs { algorithm: \"a.lock\", procs: 2, limit: 1000000, seed: 1, first_round: 40, rounds: 10, steps: 20, \
+shrink: false, jobs: 7 })
 
 rmelab run --procs 16 --messages 4096 --crash 50 --seed 7
 Run(RunArgs { procs: 16, messages: 4096, crash: 50, seed: 7, width: 1 })
@@ -71,11 +78,28 @@ width: 1, stuck: true, starving: Some(Any), all_variables: false, jobs: 0 })
 
 rmelab explore --algorithm a.lock --procs 2 --starving
 ExploreAlgorithm(AlgorithmExploreArgs { algorithm: \"a.lock\", procs: 2, calls: None, crashes: 0, moves: 18446744073709551615, \
-states: 10000000, limit: 4, stuck: false, starving: Some(Nobody) })
+states: 10000000, limit: 4, stuck: false, starving: Some(Nobody), jobs: 0 })
 
-rmelab explore --algorithm a.lock --procs 2 --stuck --limit 1
+rmelab explore --algorithm a.lock --procs 2 --stuck --limit 1 --jobs 3
 ExploreAlgorithm(AlgorithmExploreArgs { algorithm: \"a.lock\", procs: 2, calls: None, crashes: 0, moves: 18446744073709551615, \
-states: 10000000, limit: 1, stuck: true, starving: None })
+states: 10000000, limit: 1, stuck: true, starving: None, jobs: 3 })
+
+rmelab replay --algorithm a.lock --json b.rme
+ReplayAlgorithm(AlgorithmReplayArgs { algorithm: \"a.lock\", json: true, each: false, file: Some(\"b.rme\") })
+
+rmelab step --algorithm a.lock b.rme
+StepAlgorithm(AlgorithmStepArgs { algorithm: \"a.lock\", file: Some(\"b.rme\") })
+
+rmelab states check --variant right --procs 2 --part 1 --parts 3 a.states
+States(StatesArgs { search: ExploreArgs { variant: Right, procs: 2, calls: Alphabet { lock: true, unlock: true, recover: false, \
+consistent: false, withdraw: false, append: false, close: false }, crashes: 0, moves: 18446744073709551615, states: 10000000, \
+limit: 4, cap: 1, width: 1, stuck: false, starving: None, all_variables: false, jobs: 0 }, stream: StreamArgs { tool: Check, \
+words: 0, digits: 2, part: 1, parts: 3, file: Some(\"a.states\") } })
+
+rmelab states first --algorithm a.lock --procs 2 --words 70 --digits 1
+StatesAlgorithm(AlgorithmStatesArgs { search: AlgorithmExploreArgs { algorithm: \"a.lock\", procs: 2, calls: None, crashes: 0, \
+moves: 18446744073709551615, states: 10000000, limit: 4, stuck: false, starving: None, jobs: 0 }, stream: StreamArgs { \
+tool: First, words: 70, digits: 1, part: 0, parts: 1, file: None } })
 
 rmelab judge
 Judge(JudgeArgs { json: false, file: None })";

@@ -2,15 +2,19 @@
 
 use crate::searches::named_texts::example_algorithms;
 use crate::support::invocation::{all_come_to, output_of, program_comes_to};
+use crate::support::row::text_named;
 use algorithms_tests::texts::others;
+use diagram::page_text::{PAGE_HEAD, PAGE_SCRIPT, PAGE_STEP};
 use std::alloc::Global;
+use std::process::Abort;
 use std::sync::Wait;
 use std::test::Fail;
 use std::thread::Threads;
 
-/// `ALONE`: a process that enters and leaves, alone; its report and its drawing, on Peterson's lock. Without a promise of order
-/// the deeds before the entry are heard with it. `SESSION`: a session on a test that is no lock. `HEADED`: one with the header
-/// alone.
+/// `ALONE`: a process that enters and leaves, alone; its report, that with each step, both as JSON, and its drawing, on Peterson's
+/// lock. Without a promise of order the deeds before the entry are heard with it. `REFUSED`: a line is refused after a step.
+/// `SESSION`: a session on a test that is no lock. `HEADED`: one with the header alone. `BEGUN`: one that begins with `ALONE`, and
+/// goes back.
 pub const TEXTS: &str = "
 @text ALONE
 rme 1 procs 2 limit 1 cap 1
@@ -70,10 +74,58 @@ process 0: outside, no call
 process 1: outside, no call
 @text BAD_VARIANT
 rmelab: bad variant
-@text NO_PAGE
-error: with '--algorithm <FILE>' there is no '--html'
-
-For more information, try '--help'.
+@text ALONE_BY_STEPS
+at 0 rest w flag[0]=1
+at 0 rest w turn=1
+at 0 section r flag[1] 0
+begin 0
+ready 0
+enter 0
+answer 0 done
+at 0 rest w flag[0]=0
+leave 0
+answer 0 done
+words flag 0 0
+words turn 1
+verdict fine
+@text ALONE_AS_OBJECT
+{\"report\":[\"begin 0\",\"ready 0\",\"enter 0\",\"answer 0 done\",\"leave 0\",\"answer 0 done\",\"words flag 0 0\",\
+\"words turn 1\",\"verdict fine\"]}
+@text ALONE_AS_LINES
+{\"format\":\"rmelab algorithm steps\",\"version\":1}
+{\"step\":1,\"process\":0,\"phase\":\"rest\",\"access\":\"store\",\"word\":\"flag[0]\",\"value\":1,\"report\":[]}
+{\"step\":2,\"process\":0,\"phase\":\"rest\",\"access\":\"store\",\"word\":\"turn\",\"value\":1,\"report\":[]}
+{\"step\":3,\"process\":0,\"phase\":\"section\",\"access\":\"load\",\"word\":\"flag[1]\",\"value\":0,\"report\":[\
+\"begin 0\",\"ready 0\",\"enter 0\",\"answer 0 done\"]}
+{\"step\":4,\"process\":0,\"phase\":\"rest\",\"access\":\"store\",\"word\":\"flag[0]\",\"value\":0,\"report\":[\
+\"leave 0\",\"answer 0 done\"]}
+{\"words\":\"flag\",\"values\":[0,0]}
+{\"words\":\"turn\",\"values\":[1]}
+{\"verdict\":\"fine\"}
+@text REFUSED
+rme 1 procs 2 limit 1 cap 1
+lock 0
+step 0
+crash 0
+lock 2
+@text REFUSED_BY_STEPS
+at 0 rest w flag[0]=1
+at 0 dead
+crash 0
+@text REFUSED_AS_LINES
+{\"format\":\"rmelab algorithm steps\",\"version\":1}
+{\"step\":1,\"process\":0,\"phase\":\"rest\",\"access\":\"store\",\"word\":\"flag[0]\",\"value\":1,\"report\":[]}
+{\"step\":2,\"process\":0,\"phase\":\"dead\",\"access\":null,\"word\":null,\"value\":null,\"report\":[\"crash 0\"]}
+@text LINE_5
+rmelab: line 5: refused 3
+@text BEGUN
+process 0: outside, no call
+process 1: outside, no call
+words turn 1
+process 0: inside, before line 21
+process 1: outside, no call
+words flag 1 0
+words turn 1
 @text ALONE_TOLD
 begin 0
 ready 0
@@ -88,7 +140,7 @@ verdict fine
 
 /// What a hunt finds is made least, and both go wrong in a replay.
 fn is_made_least(
-    rt: &(impl Threads + Wait + Sync),
+    rt: &(impl Threads + Wait + Sync + Abort),
     alloc: Global,
     text: &[u8],
 ) -> Result<bool, Fail> {
@@ -108,6 +160,11 @@ fn is_made_least(
     output_of(rt, alloc, replay, text, &least, 1)?;
     let at_once = format!(in alloc; "{hunt} --shrink")?;
     let found_least = output_of(rt, alloc, &at_once, text, b"", 1)?;
+    for jobs in ["1", "3"] {
+        let by_threads = format!(in alloc; "{hunt} --jobs {jobs}")?;
+        let found_by_threads = output_of(rt, alloc, &by_threads, text, b"", 1)?;
+        assert!(rt; found_by_threads == found);
+    }
     Ok(least.len() < found.len() && found_least == least)
 }
 
@@ -126,6 +183,8 @@ nothing found
 @row rmelab hunt --algorithm a.lock --seed 1 --rounds 1 --steps 3 --shrink @file a.lock PETERSON @file b.rme ALONE @out NOTHING_FOUND
 @row rmelab hunt --algorithm a.lock --seed 1 --rounds 1300 --steps 5 @file a.lock PETERSON @shown
 \r639 rounds, 3195 moves, 3195 moves a second\x1b[K\r1279 rounds, 6395 moves, 3197 moves a second\x1b[K\r\x1b[K@out NOTHING_FOUND
+@row rmelab hunt --algorithm a.lock --seed 1 --first-round 9999 --rounds 1 --steps 3 @file a.lock PETERSON @out NOTHING_FOUND
+@row rmelab hunt --algorithm a.lock --seed 1 --first-round 10000 --rounds 1 --steps 3 @file a.lock PETERSON @ends 2 @err BAD_SIZE
 @row rmelab hunt --algorithm a.lock --procs 3 --seed 1 --rounds 1 --steps 3 @file a.lock PETERSON @file b.rme ALONE @ends 2 @err BAD_SIZE
 @row rmelab shrink --algorithm a.lock b.rme @file a.lock PETERSON @file b.rme ALONE @out
 verdict fine
@@ -139,6 +198,16 @@ rmelab: line 2: refused 17
 rme 1 procs 3 limit 1 cap 1
 @err
 rmelab: line 1: refused 1
+@row rmelab replay --algorithm a.lock --each b.rme @file a.lock PETERSON @file b.rme ALONE @out ALONE_BY_STEPS
+@row rmelab replay --algorithm a.lock --json b.rme @file a.lock PETERSON @file b.rme ALONE @out ALONE_AS_OBJECT
+@row rmelab replay --algorithm a.lock --each --json @in ALONE @file a.lock PETERSON @out ALONE_AS_LINES
+@row rmelab replay --algorithm a.lock --each @in REFUSED @file a.lock PETERSON @out REFUSED_BY_STEPS @err LINE_5 @ends 2
+@row rmelab replay --algorithm a.lock --json @in REFUSED @file a.lock PETERSON @err LINE_5 @ends 2
+@row rmelab replay --algorithm a.lock --each --json @in REFUSED @file a.lock PETERSON @out REFUSED_AS_LINES @err LINE_5 @ends 2
+@row rmelab replay --algorithm a.lock --each --json @file a.lock PETERSON @ends 2 @in
+rme 1 procs 3 limit 1 cap 1
+@err
+rmelab: line 1: refused 1
 @row rmelab step --algorithm a.lock @in SESSION @file a.lock ONE_WORD @out HELD
 @row rmelab hunt --seed 1 --rounds 0 --steps 1 --algorithm a.lock --variant right @ends 2 @err BAD_VARIANT
 @row rmelab hunt --seed 1 --rounds 0 --steps 1 --algorithm a.lock @ends 2 @err BAD_SIZE
@@ -149,22 +218,45 @@ rmelab: line 1: refused 1
 @row rmelab shrink a.rme @ends 2 @err NO_LOCK
 @row rmelab draw --algorithm a.lock --variant right @ends 2 @err BAD_VARIANT
 @row rmelab draw --html --algorithm a.lock --image a.json @ends 2 @err BAD_VARIANT
-@row rmelab draw --html --algorithm a.lock @ends 2 @err NO_PAGE
-@row rmelab step --algorithm a.lock b.rme @ends 2 @err
-error: with '--algorithm <FILE>' there is no '[FILE]'; the first line of the input is a header
+";
 
-For more information, try '--help'.
+/// Sessions that begin with the schedule of a file. The function `command` takes no such file.
+const SESSIONS_FROM_A_FILE: &str = "
+@row rmelab step --algorithm a.lock b.rme @file a.lock PETERSON @file b.rme ALONE @out BEGUN @in
+undo
+@row rmelab step --algorithm a.lock b.rme @file a.lock PETERSON @file b.rme REFUSED @err LINE_5 @ends 2 @in
+undo
 ";
 
 #[test]
 fn commands_on_an_algorithm(rt: HostRuntime) -> Result<(), Fail> {
     let algorithms = example_algorithms(rt.alloc())?;
-    all_come_to(
-        &rt,
-        rt.alloc(),
-        &[algorithms.as_str(), TEXTS],
-        COMMANDS_ON_AN_ALGORITHM,
-    )
+    let texts = [algorithms.as_str(), TEXTS];
+    all_come_to(&rt, rt.alloc(), &texts, COMMANDS_ON_AN_ALGORITHM)?;
+    program_comes_to(&rt, rt.alloc(), &texts, SESSIONS_FROM_A_FILE)
+}
+
+/// A page is the drawing and the lines of a run between fixed parts.
+#[test]
+fn pages_of_an_algorithm(rt: HostRuntime) -> Result<(), Fail> {
+    let algorithm = str::from_utf8(others::PETERSON)?;
+    for name in ["ALONE", "REFUSED"] {
+        let schedule = text_named(&[TEXTS], name).unwrap_or("").as_bytes();
+        let status = if name == "ALONE" { 0 } else { 2 };
+        let draw = "rmelab draw --algorithm a.lock --svg";
+        let picture = output_of(&rt, rt.alloc(), draw, algorithm, schedule, status)?;
+        let follow = "rmelab replay --algorithm a.lock --each --json";
+        let lines = output_of(&rt, rt.alloc(), follow, algorithm, schedule, status)?;
+        let html = "rmelab draw --algorithm a.lock --html";
+        let page = output_of(&rt, rt.alloc(), html, algorithm, schedule, status)?;
+        let picture = str::from_utf8(&picture)?;
+        let lines = str::from_utf8(&lines)?;
+        let expected = format!(in rt.alloc();
+            "{PAGE_HEAD}{picture}{PAGE_STEP}{lines}{PAGE_SCRIPT}"
+        )?;
+        assert!(rt; page.as_slice() == expected.as_bytes(), "{name}");
+    }
+    Ok(())
 }
 
 const COMMANDS_ON_AN_ALGORITHM_THAT_FAIL: &str = "
@@ -188,6 +280,9 @@ rmelab: algorithm line 6: fault 7: a second access in one line
 @row rmelab step --algorithm a.lock @in ALONE @ends 3 @err UNREAD
 @row rmelab step --algorithm a.lock @in ALONE @file a.lock PETERSON @fails file-read @ends 3 @err UNREAD
 @row rmelab step --algorithm a.lock @in ALONE @file a.lock PETERSON @fails write @ends 3 @err UNWRITTEN
+@row rmelab step --algorithm a.lock b.rme @in HEADED @file a.lock PETERSON @ends 3 @err UNREAD
+@row rmelab replay --algorithm a.lock --each @in ALONE @file a.lock PETERSON @fails write @ends 3 @err UNWRITTEN
+@row rmelab replay --algorithm a.lock --json @in ALONE @file a.lock PETERSON @fails write @ends 3 @err UNWRITTEN
 @row rmelab step --algorithm a.lock @in HEADED @file a.lock PETERSON @fails read @out AT_REST @ends 3 @err UNREAD
 @row rmelab step --algorithm a.lock @in HEADED @file a.lock PETERSON @fails flush @out AT_REST @ends 3 @err UNWRITTEN
 ";

@@ -96,10 +96,13 @@ For more information, try '--help'.
 /// the same words each time.
 const SEARCHES_OF_ALGORITHMS: &str = "
 @row rmelab explore --algorithm a.lock --procs 2 --limit 1 @file a.lock NO_LOOK @out SHORTEST @ends 1
-@row rmelab explore --procs 2 --algorithm a.lock --limit 1 --moves 20 --calls unlock,lock --jobs 4 @file a.lock NO_LOOK @out SHORTEST @ends 1
+@row rmelab explore --procs 2 --algorithm a.lock --limit 1 --moves 20 --calls unlock,lock --jobs 3 @file a.lock NO_LOOK @out SHORTEST @ends 1
+@row rmelab explore --procs 2 --algorithm a.lock --limit 1 --moves 20 --calls unlock,lock --jobs 1 @file a.lock NO_LOOK @out SHORTEST @ends 1
 @row rmelab explore --algorithm a.lock --procs 2 --limit 1 --crashes 1 @file a.lock PETERSON @out CRASH_INSIDE @ends 1
 @row rmelab explore --algorithm a.lock --procs 2 @file a.lock ONE_WORD @out TWO_AT_ONCE @ends 1
-@row rmelab explore --algorithm a.lock --procs 2 --limit 1 --moves 19 @file a.lock NO_LOOK @out
+@row rmelab explore --algorithm a.lock --procs 2 --limit 1 --moves 19 --jobs 1 @file a.lock NO_LOOK @out
+nothing found within 19 moves
+@row rmelab explore --algorithm a.lock --procs 2 --limit 1 --moves 19 --jobs 3 @file a.lock NO_LOOK @out
 nothing found within 19 moves
 @row rmelab explore --algorithm a.lock --procs 2 --calls lock,unlock @file a.lock BAKERY_RUIN @out
 nothing found: all 925 states
@@ -107,9 +110,13 @@ nothing found: all 925 states
 nothing found: all 1741 states
 @row rmelab explore --algorithm a.lock --procs 2 --calls lock,unlock,recover,withdraw @file a.lock BAKERY_RUIN @out
 nothing found: all 1741 states
-@row rmelab explore --algorithm a.lock --procs 2 --states 58 @file a.lock PETERSON @out
+@row rmelab explore --algorithm a.lock --procs 2 --states 58 --jobs 1 @file a.lock PETERSON @out
 nothing found: all 58 states
-@row rmelab explore --algorithm a.lock --procs 2 @file a.lock BAKERY_1974 @out
+@row rmelab explore --algorithm a.lock --procs 2 --states 58 --jobs 3 @file a.lock PETERSON @out
+nothing found: all 58 states
+@row rmelab explore --algorithm a.lock --procs 2 --jobs 1 @file a.lock BAKERY_1974 @out
+nothing found: all 449 states, 26 moves left out from line 16
+@row rmelab explore --algorithm a.lock --procs 2 --jobs 3 @file a.lock BAKERY_1974 @out
 nothing found: all 449 states, 26 moves left out from line 16
 @row rmelab explore --algorithm a.lock --procs 2 --limit 1 --crashes 1 @file a.lock BAKERY_1974 @out
 nothing found: all 358 states, 79 moves left out from line 16
@@ -165,7 +172,9 @@ rmelab: too many states
 @row rmelab explore --procs 2 --calls run @ends 2 @err NO_LOCK
 @row rmelab explore --algorithm a.lock --procs 3 @file a.lock PETERSON @ends 2 @err BAD_SIZE
 @row rmelab explore --algorithm a.lock --procs 2 --limit 0 @file a.lock PETERSON @ends 2 @err BAD_SIZE
-@row rmelab explore --algorithm a.lock --procs 2 --states 57 @file a.lock PETERSON @ends 3 @err
+@row rmelab explore --algorithm a.lock --procs 2 --states 57 --jobs 1 @file a.lock PETERSON @ends 3 @err
+rmelab: too many states
+@row rmelab explore --algorithm a.lock --procs 2 --states 57 --jobs 3 @file a.lock PETERSON @ends 3 @err
 rmelab: too many states
 @row rmelab explore --algorithm a.lock --procs 2 @ends 2 @file a.lock
 algorithm a for 2 processes

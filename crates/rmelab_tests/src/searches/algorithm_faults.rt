@@ -14,10 +14,6 @@ step 0 9
 rmelab: algorithm line 1: fault 16: a limit is passed
 @text BAD_VARIANT
 rmelab: bad variant
-@text NO_STEPS
-error: with '--algorithm <FILE>' there is no '--json' and no '--each'
-
-For more information, try '--help'.
 @text UNREAD
 rmelab: read failed
 ";
@@ -176,8 +172,7 @@ rmelab: line 3: refused 16
 @row rmelab replay --algorithm a.lock --image a.json @ends 2 @err BAD_VARIANT
 @row rmelab replay --algorithm a.lock --save a.json @ends 2 @err BAD_VARIANT
 @row rmelab replay --each --algorithm a.lock --variant right @ends 2 @err BAD_VARIANT
-@row rmelab replay --algorithm a.lock --each @ends 2 @err NO_STEPS
-@row rmelab replay --json --algorithm a.lock @ends 2 @err NO_STEPS
+@row rmelab replay --json --algorithm a.lock --save a.json @ends 2 @err BAD_VARIANT
 ";
 
 #[test]

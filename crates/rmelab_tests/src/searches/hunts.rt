@@ -59,6 +59,10 @@ fn is_fine(
 const HUNT_SEEDS: &str = "
 @row rmelab hunt --variant right --seed 1 --rounds 100 --steps 1000 @out
 nothing found
+@row rmelab hunt --variant right --seed 1 --first-round 9900 --rounds 100 --steps 100 @out
+nothing found
+@row rmelab hunt --variant right --seed 1 --first-round 9901 --rounds 100 --steps 100 @ends 2 @err
+rmelab: bad size
 ";
 
 /// What seed 1 finds of each wrong variant has a verdict against that variant, and none against the right lock.

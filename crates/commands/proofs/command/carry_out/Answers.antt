@@ -92,12 +92,12 @@ returns-in-Step-clause-ends g c =
     (g.W.Sink.tape c.session_command.new.w)
     c.session_command.result)
     (sym c.in-Step.is)
-    (g.F.Folder.used c.args.folder.now, g.F.Folder.used c.session_command.new.folder, c.session_command.ensures.ends)
+    (option_copied c.args.start, g.F.Folder.used c.args.folder.now, g.F.Folder.used c.session_command.new.folder, c.session_command.ensures.ends)
 
 pub returns-in-Step-clause-session : goal.returns-in-Step-clause-session
 returns-in-Step-clause-session g c = λ is.
     subst
-    (λ command. SessionEndsOf command (option_copied c.args.image)
+    (λ command. SessionEndsOf command (option_copied c.args.image) (option_copied c.args.start)
     (devices (g.R.Source.reading c.args.r.now) (g.F.Folder.used c.args.folder.now) (g.W.Sink.tape c.args.w.now))
     (devices (g.R.Source.reading c.session_command.new.r) (g.F.Folder.used c.session_command.new.folder) (g.W.Sink.tape c.session_command.new.w))
     c.session_command.result)
@@ -115,14 +115,40 @@ returns-in-StepAlgorithm-clause-ends g c =
     (g.W.Sink.tape c.algorithm_session_command.new.w)
     c.algorithm_session_command.result)
     (sym c.in-StepAlgorithm.is)
-    (g.F.Folder.used c.args.folder.now, g.F.Folder.used c.algorithm_session_command.new.folder, c.algorithm_session_command.ensures.ends)
+    (option_copied c.args.start, g.F.Folder.used c.args.folder.now, g.F.Folder.used c.algorithm_session_command.new.folder, c.algorithm_session_command.ensures.ends)
 
 pub returns-in-StepAlgorithm-clause-session : goal.returns-in-StepAlgorithm-clause-session
 returns-in-StepAlgorithm-clause-session g c = λ is.
     subst
-    (λ command. SessionEndsOf command (option_copied c.args.image)
+    (λ command. SessionEndsOf command (option_copied c.args.image) (option_copied c.args.start)
     (devices (g.R.Source.reading c.args.r.now) (g.F.Folder.used c.args.folder.now) (g.W.Sink.tape c.args.w.now))
     (devices (g.R.Source.reading c.algorithm_session_command.new.r) (g.F.Folder.used c.algorithm_session_command.new.folder) (g.W.Sink.tape c.algorithm_session_command.new.w))
     c.algorithm_session_command.result)
     (sym c.in-StepAlgorithm.is)
     c.algorithm_session_command.ensures.ends
+
+-- `states` ends as `states_command` says
+pub returns-in-States-clause-ends : goal.returns-in-States-clause-ends
+returns-in-States-clause-ends g c =
+    subst
+    (λ command. CommandEnds command (option_copied c.args.image)
+    (g.R.Source.reading c.args.r.now)
+    (g.R.Source.reading c.states_command.new.r)
+    (g.W.Sink.tape c.args.w.now)
+    (g.W.Sink.tape c.states_command.new.w)
+    c.states_command.result)
+    (sym c.in-States.is)
+    c.states_command.ensures.ends
+
+-- `states` on an algorithm as `algorithm_states_command` says
+pub returns-in-StatesAlgorithm-clause-ends : goal.returns-in-StatesAlgorithm-clause-ends
+returns-in-StatesAlgorithm-clause-ends g c =
+    subst
+    (λ command. CommandEnds command (option_copied c.args.image)
+    (g.R.Source.reading c.args.r.now)
+    (g.R.Source.reading c.algorithm_states_command.new.r)
+    (g.W.Sink.tape c.args.w.now)
+    (g.W.Sink.tape c.algorithm_states_command.new.w)
+    c.algorithm_states_command.result)
+    (sym c.in-StatesAlgorithm.is)
+    c.algorithm_states_command.ensures.ends

@@ -1,5 +1,5 @@
 use Rattle.std.proofs.Common.{◌≡◌, map, take}
-use Rattle.crashlab.specs.Spaces.{line_by}
+use Rattle.crashlab.specs.space.Spaces.{line_by}
 use Rattle.commands.proofs.explore_command.schedule_of.Given as goal
 
 abbrev pub invariant-loop-made : goal.invariant-loop-made

@@ -1,8 +1,8 @@
 use Rattle.std.proofs.Common.{◌≡◌, ◌≢◌, ◌≤◌, List, length, Result, ◌∙◌, inl, inr, subst}
 use Rattle.schedule.specs.Tapes.{Tape}
 use Rattle.explorer.specs.Paths.{IsNumberOfStates}
-use Rattle.crashlab.specs.Spaces.{first_search_state, rules}
-use Rattle.crashlab.specs.declared.variant.Variant.TheVariants.{Right}
+use Rattle.crashlab.specs.space.Spaces.{first_search_state, rules}
+use Rattle.crashlab.specs.declared.variants.variant.Variant.TheVariants.{Right}
 use Rattle.crashlab.specs.declared.space.moves.Move.{Move}
 use Rattle.lock_explorer.specs.Keys.{key_by}
 use Rattle.lock_explorer.specs.FoundPaths.{IsFoundIn, IsShortestPath, NoneOfAtMost, NoneIsFound}

@@ -1,8 +1,8 @@
 use Rattle.std.proofs.Common.{◌+◌, length, ◌∙◌, inl, inr, subst}
 use Rattle.explorer.specs.Fairness.{IsLassoOf, IsLeastLasso, IsNeverStarving}
 use Rattle.explorer.specs.Paths.{IsNumberOfStates}
-use Rattle.crashlab.specs.Spaces.{first_search_state}
-use Rattle.crashlab.specs.Starvation.{world_rules, fairness}
+use Rattle.crashlab.specs.space.Spaces.{first_search_state}
+use Rattle.crashlab.specs.space.Starvation.{world_rules, fairness}
 use Rattle.cli.specs.declared.arguments.args.ExploreArgs.{ExploreArgs}
 use Rattle.commands.specs.Explores.{calls_of, layout_of}
 use Rattle.commands.proofs.starvation.tell_starving.Goals as goal

@@ -3,10 +3,10 @@ use Rattle.schedule.specs.Schedules.{spelling}
 use Rattle.schedule.specs.Tapes.{Tape}
 use Rattle.explorer.specs.Paths.{IsNumberOfStates}
 use Rattle.explorer.specs.Stuck.{LeadsToStuck, IsShortestToStuck, IsNeverStuck}
-use Rattle.crashlab.specs.declared.variant.Variant.TheVariants.{Right}
+use Rattle.crashlab.specs.declared.variants.variant.Variant.TheVariants.{Right}
 use Rattle.crashlab.specs.declared.space.moves.Move.{Move}
-use Rattle.crashlab.specs.SearchStateWords.{search_state_words}
-use Rattle.crashlab.specs.Spaces.{first_search_state, rules}
+use Rattle.crashlab.specs.space.SearchStateWords.{search_state_words}
+use Rattle.crashlab.specs.space.Spaces.{first_search_state, rules}
 use Rattle.lock_explorer.specs.FoundPaths.{IsFoundIn, IsShortestPath, NoneIsFound}
 use Rattle.commands.specs.declared.schedules.ending.Ending.{Ending}
 use Rattle.commands.specs.declared.schedules.fault.CommandFault.{CommandFault}

@@ -13,7 +13,7 @@ returns-in_err-algorithm-clause-ends g c =
 
 pub returns-clause-ends : goal.returns-clause-ends
 returns-clause-ends g c =
-    session_held (option_copied c.args.text)
+    session_held (option_copied c.args.text) (option_copied c.args.start)
     (devices (g.R.Source.reading c.args.r.now) (g.F.Folder.used c.args.folder.now) (g.W.Sink.tape c.args.w.now))
     (devices (g.R.Source.reading c.hold_session.new.r) (g.F.Folder.used c.hold_session.new.folder) (g.W.Sink.tape c.hold_session.new.w)) c.hold_session.result c.in_ok-algorithm.algorithm
     c.in_ok-algorithm.ensures.spells c.in_ok-algorithm.ensures.ends c.in_ok-algorithm.ensures.leads c.hold_session.ensures.ends

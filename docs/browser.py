@@ -23,6 +23,8 @@ FURTHER = {
     "torn": "rme 1 procs 1 limit 10 cap 2\nlock 0\nstep 0 8\nappend 0 1 77\nstep 0 7\n",
     "mended": "rme 1 procs 1 limit 10 cap 2\nlock 0\nstep 0 4\nconsistent 0\nstep 0 11\n",
 }
+# Of algorithms that are texts: each with a schedule of the same folder.
+TEXTS = {"peterson": "crash-inside", "forgetful-peterson": "crash-in-line"}
 FRAME = "new Promise(done => requestAnimationFrame(() => setTimeout(done, 0)))"
 
 
@@ -146,8 +148,12 @@ def page_differs(browser, program, page, words):
             browser.slide(at) if move == "slider" else browser.press("ArrowRight")
             if browser.text("event") != step:
                 yield f"shows another step {at} by the {move}: {browser.text('event')!r}, not {step!r}"
-    if end and end_shown(browser) != end:
-        yield f"ends otherwise: {end_shown(browser)}, not {end}"
+    if words[0] == "--algorithm":
+        end, shown = end[-1:], [browser.text("end").removeprefix("The run ends here. ")]
+    else:
+        shown = end_shown(browser)
+    if end and shown != end:
+        yield f"ends otherwise: {shown}, not {end}"
     browser.press("ArrowLeft")
     if len(steps) > 1 and browser.text("event") != steps[-2]:
         yield "does not go back"
@@ -208,6 +214,11 @@ def pages_that_differ(program, chromium):
                     words = [*variant, f"{TOP}/examples/{name}"]
                     found = page_differs(browser, program, f"{folder}/page.html", words)
                     yield from (f"examples/{name}: its page {what}" for what in found)
+        for text, schedule in TEXTS.items():
+            algorithms = f"{TOP}/examples/algorithms"
+            words = ["--algorithm", f"{algorithms}/{text}.lock", f"{algorithms}/{schedule}.rme"]
+            found = page_differs(browser, program, f"{folder}/page.html", words)
+            yield from (f"examples/algorithms/{text}.lock on {schedule}.rme: its page {what}" for what in found)
         yield from kinds_that_differ(browser, program)
         yield from long_page_is_slow(browser, program, folder)
     browser.close()

@@ -212,16 +212,16 @@ class Measure:
 
 MEASURES = [
     Measure("names", "types, traits and relations declared in several crates", 26, names_of_several_crates),
-    Measure("relations", f"relations with more than {MOST_ARGUMENTS} arguments", 3, long_relations),
+    Measure("relations", f"relations with more than {MOST_ARGUMENTS} arguments", 0, long_relations),
     Measure("undocumented", "functions without a line of documentation", 0, undocumented_functions),
     Measure("functions", "functions named by a participle or an adjective alone", 5, bare_functions),
     Measure("definitions", "definitions of specs named by one", 0, bare_definitions),
     Measure("files", "files of src and specs named by a gerund", 0, gerunds),
     Measure("behind", "uses of an identifier with `behind`", 0, lambda: uses_in_names("behind")),
     Measure("told", "uses of an identifier with `told`", 9, lambda: uses_in_names("told")),
-    Measure("lines", "lines of src, specs and proofs", 163_672, lines),
+    Measure("lines", "lines of src, specs and proofs", 172_600, lines),
 ]
-MOST_PAIRS_ALIKE = 353
+MOST_PAIRS_ALIKE = 367
 
 
 def findings() -> Iterator[str]:

@@ -44,13 +44,16 @@ def shared_argument(name: str) -> tuple[str, str]:
     help_text = re.search(rf"let \w+ =\s+{STRING};", body[0])
     value = re.search(rf"Argument::text\({STRING}, {STRING}", body[0])
     left_out = re.search(rf"Form::Optional\({STRING}\), {STRING}, {STRING}", body[0])
-    assert help_text and (value or left_out)
+    word = re.search(rf"Form::Word, {STRING}", body[0])
+    assert help_text and (value or left_out or word)
+    if word:
+        return word[1], plain(help_text[1])
     return f"--{value[1]} {value[2]}" if value else f"--{left_out[2]} [{left_out[3]}]", plain(help_text[1])
 
 
 def argument(kind: str, words: list[str], named: dict[str, str]) -> tuple[str, str]:
     """The spelling of an argument, and its help."""
-    if kind in ("variant", "algorithm", "image", "starving"):
+    if kind in ("variant", "algorithm", "image", "starving", "tool"):
         return shared_argument(kind)
     if kind == "new":
         return "WORDS", named["names"]

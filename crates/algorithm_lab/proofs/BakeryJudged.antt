@@ -6,6 +6,7 @@ use Rattle.rmecore.specs.declared.phase.Phase.{Phase}
 use Rattle.redomail.specs.declared.deed.Deed.{Deed}
 use Rattle.judge.specs.Legal.{judged_all}
 use Rattle.judge.proofs.Histories.{judged_all-append}
+use Rattle.algorithms.specs.FirstWords.{from_zeros}
 use Rattle.algorithms.specs.Worlds.{new_refusal}
 use Rattle.algorithms.specs.declared.algorithm.Algorithm.{Algorithm}
 use Rattle.algorithms.specs.declared.algorithm.AlgorithmCall.{AlgorithmCall}
@@ -27,7 +28,7 @@ none_fits true false z u low up e = absurd (cc)
 none_fits false y z u low up e = absurd (cc)
 
 -- the sizes of a world are sizes of the lock
-pub fitting : (a : Algorithm) (n limit : ℕ) → new_refusal a n limit ≡ None → (n ≤ 64) × (limit ≤ 2 ^ 62)
+pub fitting : (a : Algorithm) (n limit : ℕ) → new_refusal (from_zeros a) n limit ≡ None → (n ≤ 64) × (limit ≤ 2 ^ 62)
 fitting a n limit e =
     let h = none_fits (nat_le a.least n) (nat_le n a.most) (nat_le 1 n) (nat_le n 64) (nat_lt 0 limit) (nat_le limit (2 ^ 62)) e in
     (leb-true n 64 h.0, leb-true limit (2 ^ 62) h.1)
@@ -48,7 +49,7 @@ module _ (a : Algorithm) (b : IsBakery a) (n limit : ℕ) (most : n ≤ 64) (hig
     pub judged : judged_all (judge_at n from) deeds ≡ Ok (judge_at n lock)
     pub beside : Beside lock m
 
-  pub first_beside : Beside nobody (first_monitor a n limit)
+  pub first_beside : Beside nobody (first_monitor (from_zeros a) n limit)
   first_beside = record { world = at_rest; rows = _; processes = _; now = _; is = refl; alike = first_alike a b n limit most high }
 
   -- nothing happens

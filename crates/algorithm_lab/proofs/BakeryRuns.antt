@@ -8,6 +8,7 @@ use Rattle.schedule.specs.declared.replays.verdict.Verdict.{Verdict}
 use Rattle.schedule.specs.declared.replays.verdict.Verdict.TheVariants.{Fine}
 use Rattle.schedule.proofs.WorldRuns.{legal_is_fine}
 use Rattle.schedule.specs.Transitions.{Fell, Took}
+use Rattle.algorithms.specs.FirstWords.{from_zeros}
 use Rattle.algorithms.specs.Worlds.{advance, new_refusal}
 use Rattle.algorithms.specs.declared.algorithm.Algorithm.{Algorithm}
 use Rattle.algorithms.specs.declared.algorithm.AlgorithmCall.{AlgorithmCall}
@@ -74,22 +75,22 @@ module _ (a : Algorithm) (b : IsBakery a) (n limit : ℕ) (most : n ≤ 64) (hig
     pub verdict : verdict_of n run.reports ≡ Fine
     pub procs : run.left.world.procs ≡ n
 
-  pub new_is_fine : (all : List Line) → IsFine (run_on 2 (first_monitor a n limit) all)
+  pub new_is_fine : (all : List Line) → IsFine (run_on 2 (first_monitor (from_zeros a) n limit) all)
   new_is_fine all =
-      let led = run_fits 2 (first_monitor a n limit) all nobody (first_beside a b n limit most high) in
+      let led = run_fits 2 (first_monitor (from_zeros a) n limit) all nobody (first_beside a b n limit most high) in
       record { verdict = legal_is_fine 1 (judge_at n nobody) (judge_at n led.lock) _ led.judged; procs = ap (λ (m : MonitorState). m.world.procs) led.beside.is }
 
 -- the verdict of a replay, and the processes of its world
-pub fine : (a : Algorithm) → IsBakery a → (n limit : ℕ) (all : List Line) → (verdict_of n (run_of a n limit all).reports ≡ Fine) × ((run_of a n limit all).left.world.procs ≡ n)
-fine a b n limit all = by (new_refusal a n limit) refl
+pub fine : (a : Algorithm) → IsBakery a → (n limit : ℕ) (all : List Line) → (verdict_of n (run_of (from_zeros a) n limit all).reports ≡ Fine) × ((run_of (from_zeros a) n limit all).left.world.procs ≡ n)
+fine a b n limit all = by (new_refusal (from_zeros a) n limit) refl
   where
-    by : (o : Option AlgorithmRefusal) → new_refusal a n limit ≡ o
-        → (verdict_of n (run_unless o (first_monitor a n limit) all).reports ≡ Fine) × ((run_unless o (first_monitor a n limit) all).left.world.procs ≡ n)
+    by : (o : Option AlgorithmRefusal) → new_refusal (from_zeros a) n limit ≡ o
+        → (verdict_of n (run_unless o (first_monitor (from_zeros a) n limit) all).reports ≡ Fine) × ((run_unless o (first_monitor (from_zeros a) n limit) all).left.world.procs ≡ n)
     by None may = let low = fitting a n limit may in let h = new_is_fine a b n limit low.0 low.1 all in (h.verdict, h.procs)
     by (Some e) may = (refl, refl)
 
-pub replayed_fine : (a : Algorithm) → IsBakery a → (n limit : ℕ) (all : List Line) (before now : Tape) (answer : Result Verdict AlgorithmReplayFault) → ReplaysAlgorithm before now (run_of a n limit all) answer → IfOk answer (λ verdict. verdict ≡ Fine)
+pub replayed_fine : (a : Algorithm) → IsBakery a → (n limit : ℕ) (all : List Line) (before now : Tape) (answer : Result Verdict AlgorithmReplayFault) → ReplaysAlgorithm before now (run_of (from_zeros a) n limit all) answer → IfOk answer (λ verdict. verdict ≡ Fine)
 replayed_fine a b n limit all before now (Err fault) replays = tt
 replayed_fine a b n limit all before now (Ok verdict) replays =
     let h = fine a b n limit all in
-    replays.2 ∙ ap (λ k. verdict_of k (run_of a n limit all).reports) h.1 ∙ h.0
+    replays.2 ∙ ap (λ k. verdict_of k (run_of (from_zeros a) n limit all).reports) h.1 ∙ h.0

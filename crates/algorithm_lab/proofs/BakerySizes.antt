@@ -4,6 +4,7 @@ use Rattle.std.specs.Prelude.{option_and_then}
 use Rattle.rmecore.specs.Refused.{number_of}
 use Rattle.rmecore.specs.Simulated.{new_refusal as lock_refusal}
 use Rattle.rmecore.specs.declared.refusal.Refusal.TheVariants as refusals
+use Rattle.algorithms.specs.FirstWords.{from_zeros}
 use Rattle.algorithms.specs.Worlds.{new_refusal}
 use Rattle.algorithms.specs.declared.algorithm.Algorithm.{Algorithm}
 use Rattle.algorithms.specs.declared.refusal.AlgorithmRefusal.{AlgorithmRefusal}
@@ -21,7 +22,7 @@ tested_twice true true false = refl
 tested_twice true false low = refl
 tested_twice false y low = refl
 
-pub same_sizes : (a : Algorithm) (n limit : ℕ) → IsBakery a → option_and_then number_of_world (new_refusal a n limit) ≡ option_and_then number_of (lock_refusal n limit)
+pub same_sizes : (a : Algorithm) (n limit : ℕ) → IsBakery a → option_and_then number_of_world (new_refusal (from_zeros a) n limit) ≡ option_and_then number_of (lock_refusal n limit)
 same_sizes a n limit b =
     ap (λ k. option_and_then number_of_world (refusal_by (nat_le k n && nat_le n a.most && nat_le 1 n && nat_le n 64) (nat_lt 0 limit && nat_le limit (2 ^ 62)))) b.least
     ∙ ap (λ k. option_and_then number_of_world (refusal_by (nat_le 1 n && nat_le n k && nat_le 1 n && nat_le n 64) (nat_lt 0 limit && nat_le limit (2 ^ 62)))) b.most

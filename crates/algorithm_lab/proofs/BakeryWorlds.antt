@@ -37,6 +37,7 @@ use Rattle.algorithm_lab.specs.Heard.{Heard, deeds_heard, heard_of_crash}
 use Rattle.algorithm_lab.specs.Monitors.{MonitorState, EventPart, answer_reports, first_monitor, is_idle, is_idle_process, part_of, phase_refusal, part_of_start, start_on, step_on, crash_on, then_in, unless as unless_heard}
 use Rattle.algorithm_lab.specs.Refusals.{number_of as number_of_run}
 use Rattle.algorithm_lab.specs.Moves.{ScheduleMove, Start, Step, Crash, Tells, Refuses, MoveResult, all_said, left_by, core_call, answer_number, deed_report, refused_outcome, unless, step_outcome, step_by, lock_move, moved_by, text_move, SameWords}
+use Rattle.algorithms.specs.FirstWords.{from_zeros}
 use Rattle.algorithms.specs.Worlds.{AlgorithmWorldState, access_at, after_step, process_after_start, entry_of, resting, advance_in_world as said_of, words_after_access, taken_by, with_process}
 use Rattle.algorithms.specs.Steps.{step_before_access}
 use Rattle.algorithms.specs.declared.access.WordAccess.{WordAccess}
@@ -142,7 +143,7 @@ at_some o x P e h = subst (λ r. IfSome r P) e h
 
 module _ (a : Algorithm) (b : IsBakery a) (n limit : ℕ) (most : n ≤ 64) (high : limit ≤ 2 ^ 62) where
   abbrev pub world : List (List ℕ) → List AlgorithmProcess → AlgorithmWorldState
-  world rows ts = record { algorithm = a; procs = n; limit = limit; words = rows; processes = ts }
+  world rows ts = record { algorithm = a; procs = n; limit = limit; first_rows = None; words = rows; processes = ts }
 
   abbrev pub state : List (List ℕ) → List AlgorithmProcess → List Phase → MonitorState
   state rows ts ps = record { world = world rows ts; phases = ps }
@@ -492,5 +493,5 @@ module _ (a : Algorithm) (b : IsBakery a) (n limit : ℕ) (most : n ≤ 64) (hig
     words = first_words;
   }
 
-  pub same_runs : (moves : List ScheduleMove) → SameRuns at_rest (first_monitor a n limit) moves
+  pub same_runs : (moves : List ScheduleMove) → SameRuns at_rest (first_monitor (from_zeros a) n limit) moves
   same_runs moves = runs_match moves at_rest nobody (replicate (length a.declarations.items) (replicate 64 0)) (replicate n resting) (replicate n phases.Out) first_alike

@@ -31,6 +31,7 @@ use Rattle.schedule.specs.Reports.{line_of_report as lock_line, reports_text as 
 use Rattle.schedule.specs.Runs.{Part as LockRun, LockReport, Did as LockDid, Answered as LockAnswered, did, answer_reports as lock_answered, reports_of, unless as lock_unless, steps as lock_steps, line_on as lock_line_on, run_on as lock_run_on}
 use Rattle.schedule.specs.declared.lines.line.Line.{Line}
 use Rattle.schedule.specs.declared.lines.line.Line.TheVariants as lines
+use Rattle.algorithms.specs.FirstWords.{from_zeros}
 use Rattle.algorithms.specs.declared.algorithm.Algorithm.{Algorithm}
 use Rattle.algorithms.specs.declared.algorithm.AlgorithmCall.{AlgorithmCall}
 use Rattle.algorithms.specs.declared.process.AlgorithmProcess.{AlgorithmProcess}
@@ -370,9 +371,9 @@ module _ (a : Algorithm) (b : IsBakery a) (n limit : ℕ) (most : n ≤ 64) (hig
       followed_same k text lock text.refused lock.refused (run_on (k + 1) text.left all) (lock_run_on (lock_behaviour n limit) (k + 1) lock.left all)
       both.reports both.beside both.refused (run_same (k + 1) all lock.left text.left (All-tail IsOfLock line all each) both.beside)
 
-  pub lines_same : (first : ℕ) (all : List Line) → All IsOfLock all → SameRun a n (run_on first (first_monitor a n limit) all) (lock_run_on (lock_behaviour n limit) first at_rest all)
+  pub lines_same : (first : ℕ) (all : List Line) → All IsOfLock all → SameRun a n (run_on first (first_monitor (from_zeros a) n limit) all) (lock_run_on (lock_behaviour n limit) first at_rest all)
   lines_same first all each =
-      let both = run_same first all at_rest (first_monitor a n limit) each (record { lock = nobody; rows = _; processes = _; now = _; is = refl; alike = first_alike a b n limit most high }) in
+      let both = run_same first all at_rest (first_monitor (from_zeros a) n limit) each (record { lock = nobody; rows = _; processes = _; now = _; is = refl; alike = first_alike a b n limit most high }) in
       let left : World = (lock_run_on (lock_behaviour n limit) first at_rest all).left in
       let end = both.beside in
       record {

@@ -6,12 +6,14 @@ use Rattle.rmecore.specs.declared.phase.Phase.{Phase}
 use Rattle.rmecore.specs.declared.phase.Phase.TheVariants.{Out}
 use Rattle.schedule.specs.declared.lines.line.Line.{Line}
 use Rattle.algorithms.specs.Arrivals.{◌>>=◌}
+use Rattle.algorithms.proofs.FirstWords.{rows_length}
 use Rattle.algorithms.proofs.Worlds.{stored_many}
+use Rattle.algorithms.specs.FirstWords.{first_rows, rows_at_beginning}
 use Rattle.algorithms.specs.Steps.{advance_of}
 use Rattle.algorithms.specs.Worlds.{no_names, resting, words_after_access, process_of, start_of_process as process_started, step_of_process, after_step as world_after_step, advance_in_world, with_process}
 use Rattle.algorithms.specs.declared.access.Taken.{Taken}
-use Rattle.algorithms.specs.declared.algorithm.Algorithm.{Algorithm}
 use Rattle.algorithms.specs.declared.algorithm.AlgorithmCall.{AlgorithmCall}
+use Rattle.algorithms.specs.declared.first_values.InitializedAlgorithm.{InitializedAlgorithm}
 use Rattle.algorithms.specs.declared.process.AlgorithmPlace.TheVariants.{Dead}
 use Rattle.algorithms.specs.declared.process.AlgorithmProcess.{AlgorithmProcess}
 use Rattle.algorithms.specs.declared.refusal.AlgorithmRefusal.{AlgorithmRefusal}
@@ -22,17 +24,15 @@ use Rattle.algorithm_lab.specs.declared.run_report.TextReport.{TextReport}
 use Rattle.algorithm_lab.proofs.Runs.{so_of_line, so_of_run}
 use Rattle.algorithm_lab.specs.declared.run_refusal.RunRefusal.{RunRefusal}
 
-abbrev zeros : List ℕ
-zeros = replicate 64 0
-
-pub first_restarted : (a : Algorithm) (procs limit : ℕ) → monitor_at_beginning (first_monitor a procs limit) ≡ first_monitor a procs limit
+pub first_restarted : (a : InitializedAlgorithm) (procs limit : ℕ) → monitor_at_beginning (first_monitor a procs limit) ≡ first_monitor a procs limit
 first_restarted a procs limit =
     (λ i. record {
       world = record {
-        algorithm = a;
+        algorithm = a.algorithm;
         procs = procs;
         limit = limit;
-        words = replicate (length-replicate (length a.declarations.items) zeros i) zeros;
+        first_rows = first_rows a.algorithm procs limit a.first_values;
+        words = rows_at_beginning (first_rows a.algorithm procs limit a.first_values) (rows_length (first_rows a.algorithm procs limit a.first_values) (length a.algorithm.declarations.items) i);
         processes = replicate (length-replicate procs resting i) resting;
       };
       phases = replicate (length-replicate procs Out i) Out;
@@ -40,20 +40,20 @@ first_restarted a procs limit =
 
 -- a monitor with other words, processes and phases, as many of each
 abbrev with_these : MonitorState → List (List ℕ) → List AlgorithmProcess → List Phase → MonitorState
-with_these m words processes phases = record { world = record { algorithm = m.world.algorithm; procs = m.world.procs; limit = m.world.limit; words = words; processes = processes }; phases = phases }
+with_these m words processes phases = record { world = record { algorithm = m.world.algorithm; procs = m.world.procs; limit = m.world.limit; first_rows = m.world.first_rows; words = words; processes = processes }; phases = phases }
 
 restarts_with : (m : MonitorState) (words : List (List ℕ)) (processes : List AlgorithmProcess) (phases : List Phase) → length words ≡ length m.world.words → length processes ≡ length m.world.processes → length phases ≡ length m.phases
     → monitor_at_beginning (with_these m words processes phases) ≡ monitor_at_beginning m
 restarts_with m words processes phases w q f =
     (λ i. record {
-      world = record { algorithm = m.world.algorithm; procs = m.world.procs; limit = m.world.limit; words = replicate (w i) zeros; processes = replicate (q i) resting };
+      world = record { algorithm = m.world.algorithm; procs = m.world.procs; limit = m.world.limit; first_rows = m.world.first_rows; words = rows_at_beginning m.world.first_rows (w i); processes = replicate (q i) resting };
       phases = replicate (f i) Out;
     })
 
 pub restarted_twice : (m : MonitorState) → monitor_at_beginning (monitor_at_beginning m) ≡ monitor_at_beginning m
 restarted_twice m =
-    restarts_with m (replicate (length m.world.words) zeros) (replicate (length m.world.processes) resting) (replicate (length m.phases) Out)
-    (length-replicate (length m.world.words) zeros) (length-replicate (length m.world.processes) resting) (length-replicate (length m.phases) Out)
+    restarts_with m (rows_at_beginning m.world.first_rows (length m.world.words)) (replicate (length m.world.processes) resting) (replicate (length m.phases) Out)
+    (rows_length m.world.first_rows (length m.world.words)) (length-replicate (length m.world.processes) resting) (length-replicate (length m.phases) Out)
 
 -- ---- starts, steps and crashes
 

@@ -3,9 +3,9 @@ use Rattle.std.specs.Prelude.{◌≡◌, ℕ, Bool, true, false, if◌then◌els
 use Rattle.rmecore.specs.declared.phase.Phase.{Phase}
 use Rattle.rmecore.specs.declared.phase.Phase.TheVariants.{Out, Inside}
 use Rattle.algorithms.specs.Worlds.{AlgorithmWorldState, first_world, process_of, entry_of, start, advance, crash, world_at_beginning as world_restarted}
-use Rattle.algorithms.specs.declared.algorithm.Algorithm.{Algorithm}
 use Rattle.algorithms.specs.declared.algorithm.AlgorithmCall.{AlgorithmCall}
 use Rattle.algorithms.specs.declared.algorithm.AlgorithmCall.TheVariants.{Lock, Unlock, Recover}
+use Rattle.algorithms.specs.declared.first_values.InitializedAlgorithm.{InitializedAlgorithm}
 use Rattle.algorithms.specs.declared.process.AlgorithmPlace.{AlgorithmPlace}
 use Rattle.algorithms.specs.declared.process.AlgorithmPlace.TheVariants.{Rest, Dead, At}
 use Rattle.algorithms.specs.declared.process.AlgorithmProcess.{AlgorithmProcess}
@@ -21,7 +21,7 @@ pub record MonitorState : Type 0 where
   pub phases : List Phase
 
 -- a new world, in which all processes are out
-abbrev pub first_monitor : Algorithm → ℕ → ℕ → MonitorState
+abbrev pub first_monitor : InitializedAlgorithm → ℕ → ℕ → MonitorState
 first_monitor a procs limit = record { world = first_world a procs limit; phases = replicate procs Out }
 
 -- the same world and its monitor at their beginning

@@ -4,7 +4,7 @@ use Rattle.schedule.specs.Tapes.{Tape, Writes, Begins}
 use Rattle.schedule.specs.declared.lines.line.Line.{Line}
 use Rattle.schedule.specs.declared.replays.verdict.Verdict.{Verdict}
 use Rattle.algorithms.specs.Worlds.{new_refusal}
-use Rattle.algorithms.specs.declared.algorithm.Algorithm.{Algorithm}
+use Rattle.algorithms.specs.declared.first_values.InitializedAlgorithm.{InitializedAlgorithm}
 use Rattle.algorithms.specs.declared.refusal.AlgorithmRefusal.{AlgorithmRefusal}
 use Rattle.algorithm_lab.specs.Monitors.{MonitorState, first_monitor}
 use Rattle.algorithm_lab.specs.Reports.{reports_text, report_text, verdict_of}
@@ -25,7 +25,7 @@ run_unless None m lines = run_on 2 m lines
 run_unless (Some e) m lines = record { reports = []; left = m; refused = Some (1, Refused e) }
 
 -- the run of these lines on a new world of the algorithm
-abbrev pub run_of : Algorithm → ℕ → ℕ → List Line → AlgorithmRun (ℕ × RunRefusal)
+abbrev pub run_of : InitializedAlgorithm → ℕ → ℕ → List Line → AlgorithmRun (ℕ × RunRefusal)
 run_of a procs limit lines = run_unless (new_refusal a procs limit) (first_monitor a procs limit) lines
 
 -- all that a replay writes of a run: its report, or what it reports before the refusal

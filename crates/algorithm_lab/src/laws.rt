@@ -17,6 +17,7 @@ ghost use Rattle.schedule.specs.Tapes.{Tape};
 ghost use Rattle.schedule.specs.declared.lines.line.Line.{Line as LineOf};
 ghost use Rattle.schedule.specs.declared.replays.verdict.Verdict.{Verdict as VerdictOf};
 ghost use Rattle.schedule.specs.declared.replays.verdict.Verdict.TheVariants.{Fine};
+ghost use Rattle.algorithms.specs.FirstWords.{from_zeros};
 ghost use Rattle.algorithms.specs.Worlds.{new_refusal};
 ghost use Rattle.algorithms.specs.declared.algorithm.Algorithm.{Algorithm};
 ghost use Rattle.algorithms.specs.declared.algorithm.AlgorithmCall.{AlgorithmCall};
@@ -34,14 +35,14 @@ ghost use Rattle.algorithm_lab.specs.declared.run_report.TextReport.TheVariants.
 /// The text of the recoverable Bakery means the proved lock. For every schedule of starts of lock, unlock, recover and
 /// withdraw, of steps and of crashes, an algorithm with its lines says in the laboratory, move by move, what the lock says:
 /// the same deeds, the same answers, and a refusal with the same number. Then its shared words are the lock words. A world
-/// of it is refused for the sizes for which a lock is. That the text spells such an algorithm is a test.
+/// of it is refused for the sizes for which a lock is. That the text spells such an algorithm, and no first values, is a test.
 pub fn the_text_means_the_lock()
     ensures said { (a : Algorithm) (n limit : ℕ) (moves : List ScheduleMove) → IsBakery a → n ≤ 64 → limit ≤ 2 ^ 62
-        → all_said text_move (first_monitor a n limit) moves ≡ all_said (lock_move n limit) at_rest moves }
+        → all_said text_move (first_monitor (from_zeros a) n limit) moves ≡ all_said (lock_move n limit) at_rest moves }
     ensures words { (a : Algorithm) (n limit : ℕ) (moves : List ScheduleMove) → IsBakery a → n ≤ 64 → limit ≤ 2 ^ 62
-        → SameWords n (left_by (lock_move n limit) at_rest moves) (left_by text_move (first_monitor a n limit) moves) }
+        → SameWords n (left_by (lock_move n limit) at_rest moves) (left_by text_move (first_monitor (from_zeros a) n limit) moves) }
     ensures sizes { (a : Algorithm) (n limit : ℕ) → IsBakery a
-        → option_and_then number_of_world (new_refusal a n limit) ≡ option_and_then number_of (lock_refusal n limit) }
+        → option_and_then number_of_world (new_refusal (from_zeros a) n limit) ≡ option_and_then number_of (lock_refusal n limit) }
 {}
 
 /// A core makes these moves: what its contract says of a start, a step or a crash is so of the move of the lock alone.
@@ -72,7 +73,7 @@ pub fn a_core_makes_these_moves()
 /// text, in the same words (`answers`). An image of the lock has the words that are left (`image`).
 pub fn the_text_plays_as_the_lock()
     ensures lines { (a : Algorithm) (n limit first : ℕ) (lines : List LineOf) → IsBakery a → n ≤ 64 → limit ≤ 2 ^ 62
-        → All IsOfLock lines → SameRun a n (run_on first (first_monitor a n limit) lines)
+        → All IsOfLock lines → SameRun a n (run_on first (first_monitor (from_zeros a) n limit) lines)
         (lock_run_on (lock_behaviour n limit) first at_rest lines) }
     ensures answers { (a : Algorithm) (p : ℕ) (done : CoreDone) → IsBakery a
         → line_of_report a (Answered p (answer_number done)) ≡ lock_line (LockAnswered p (answer_of done)) }
@@ -83,8 +84,9 @@ pub fn the_text_plays_as_the_lock()
 /// as one with a call that the text has not. `replayed` says it of what `replay_algorithm` answers.
 pub fn the_text_is_never_found_out()
     ensures judged { (a : Algorithm) (n limit : ℕ) (lines : List LineOf) → IsBakery a
-        → verdict_of n (run_of a n limit lines).reports ≡ Fine }
+        → verdict_of n (run_of (from_zeros a) n limit lines).reports ≡ Fine }
     ensures replayed { (a : Algorithm) (n limit : ℕ) (lines : List LineOf) (before now : Tape)
-        (answer : Result VerdictOf AlgorithmReplayFault) → IsBakery a → ReplaysAlgorithm before now (run_of a n limit lines) answer
+        (answer : Result VerdictOf AlgorithmReplayFault) → IsBakery a
+        → ReplaysAlgorithm before now (run_of (from_zeros a) n limit lines) answer
         → IfOk answer (λ verdict. verdict ≡ Fine) }
 {}

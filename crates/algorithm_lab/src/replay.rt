@@ -11,7 +11,7 @@ use crate::monitor::Monitor;
 use crate::replay_fault::AlgorithmReplayFault;
 use crate::report::{put_all_reports, put_report};
 use crate::run_refusal::RunRefusal;
-use algorithms::Algorithm;
+use algorithms::InitializedAlgorithm;
 use schedule::texts::device::write_all;
 use schedule::{Failed, Schedule, Sink, Verdict};
 use std::alloc::{AllocError, Global};
@@ -84,7 +84,7 @@ pub fn report_of_run(
 /// before the first byte is written.
 pub fn replay_algorithm<W: Sink>(
     alloc: Global,
-    algorithm: Algorithm,
+    algorithm: InitializedAlgorithm,
     schedule: &Schedule,
     w: &mut W,
 ) -> Result<Verdict, AlgorithmReplayFault>

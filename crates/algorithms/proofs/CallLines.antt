@@ -1,5 +1,5 @@
 -- Lines that are of another call.
-use Rattle.std.proofs.Common.{◌≡◌, ℕ, ◌<◌, ◌≤◌, Option, Some, None, List, slice_index_or, length, ◌∙◌, arith}
+use Rattle.std.proofs.Common.{◌≡◌, ℕ, ◌<◌, ◌≤◌, Option, Some, slice_index_or, length, ◌∙◌, arith}
 use Rattle.algorithms.specs.Deeds.{IsLineOf, entries_of}
 use Rattle.algorithms.specs.declared.algorithm.Entries.{Entries}
 

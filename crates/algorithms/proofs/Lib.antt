@@ -1,4 +1,5 @@
 pub mod CallLines
+pub mod FirstWords
 pub mod Names
 pub mod Ranked
 pub mod Worlds

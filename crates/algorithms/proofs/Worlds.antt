@@ -2,25 +2,30 @@
 use Rattle.std.proofs.Common.{ℕ, zero, suc, ◌+◌, ◌<◌, ◌≡◌, ◌∙◌, sym, refl, ap, arith, add-one, nat_lt, Bool, true, false, if◌then◌else◌, List, [], ◌∷◌, ◌++◌, drop, length, replicate, slice_get, slice_set, Option, Some, None, Result, Ok, ok_or}
 use Rattle.std.proofs.lemmas.List.{length-set}
 use Rattle.algorithms.specs.Arrivals.{◌>>=◌}
+use Rattle.algorithms.specs.FirstWords.{first_rows, rows_at_beginning}
 use Rattle.algorithms.specs.Steps.{before_step, process_stopped_at, step_from}
 use Rattle.algorithms.specs.Worlds.{AlgorithmWorldState, first_world, resting, constants_of, process_of, taken_by, stored_in, words_after_access, after_step, advance_in_world, advance}
 use Rattle.algorithms.specs.declared.access.Address.{Address}
 use Rattle.algorithms.specs.declared.access.Advanced.{Advanced}
 use Rattle.algorithms.specs.declared.access.Taken.{Taken}
 use Rattle.algorithms.specs.declared.algorithm.Algorithm.{Algorithm}
+use Rattle.algorithms.specs.declared.first_values.InitializedAlgorithm.{InitializedAlgorithm}
 use Rattle.algorithms.specs.declared.local.LocalState.{LocalState}
 use Rattle.algorithms.specs.declared.process.AlgorithmPlace.TheVariants.{At}
 use Rattle.algorithms.specs.declared.process.AlgorithmProcess.{AlgorithmProcess}
 use Rattle.algorithms.specs.declared.refusal.AlgorithmRefusal.{AlgorithmRefusal}
 use Rattle.algorithms.specs.declared.refusal.AlgorithmRefusal.TheVariants.{NoSuchProcess}
 
-abbrev pub world_with : Algorithm → ℕ → ℕ → List (List ℕ) → List AlgorithmProcess → AlgorithmWorldState
-world_with a procs limit words processes = record { algorithm = a; procs = procs; limit = limit; words = words; processes = processes }
+abbrev pub world_with : Algorithm → ℕ → ℕ → Option (List (List ℕ)) → List (List ℕ) → List AlgorithmProcess → AlgorithmWorldState
+world_with a procs limit first words processes = record { algorithm = a; procs = procs; limit = limit; first_rows = first; words = words; processes = processes }
 
-pub first_with : (a : Algorithm) (procs limit : ℕ) (words : List (List ℕ)) (processes : List AlgorithmProcess)
-    → words ≡ replicate (length a.declarations.items) (replicate 64 0) → processes ≡ replicate procs resting → world_with a procs limit words processes ≡ first_world a procs limit
-first_with a procs limit words processes w p =
-    ap (λ ws. world_with a procs limit ws processes) w ∙ ap (λ ps. world_with a procs limit (replicate (length a.declarations.items) (replicate 64 0)) ps) p
+pub first_with : (s : InitializedAlgorithm) (procs limit : ℕ) (first : Option (List (List ℕ))) (words : List (List ℕ)) (processes : List AlgorithmProcess)
+    → first ≡ first_rows s.algorithm procs limit s.first_values → words ≡ rows_at_beginning first (length s.algorithm.declarations.items) → processes ≡ replicate procs resting
+    → world_with s.algorithm procs limit first words processes ≡ first_world s procs limit
+first_with s procs limit first words processes f w p =
+    ap (λ ws. world_with s.algorithm procs limit first ws processes) w
+    ∙ ap (λ ps. world_with s.algorithm procs limit first (rows_at_beginning first (length s.algorithm.declarations.items)) ps) p
+    ∙ ap (λ o. world_with s.algorithm procs limit o (rows_at_beginning o (length s.algorithm.declarations.items)) (replicate procs resting)) f
 
 -- a store leaves as many rows as there are
 stored_in_many : (words : List (List ℕ)) (address : Address) (v : ℕ) (o : Option (List ℕ)) → length (stored_in words address v o) ≡ length words

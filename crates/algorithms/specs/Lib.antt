@@ -3,6 +3,7 @@ pub mod LocalRuns
 pub mod Arrivals
 pub mod Accesses
 pub mod Steps
+pub mod FirstWords
 pub mod Worlds
 pub mod Faults
 pub mod Ranked

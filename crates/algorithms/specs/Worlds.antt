@@ -1,6 +1,7 @@
 -- The worlds of an algorithm, and what a start, a step and a crash of a process make of them.
 use Rattle.std.specs.Prelude.{ℕ, ◌^◌, nat_lt, nat_le, Bool, false, ◌&&◌, if◌then◌else◌, List, length, replicate, slice_get, slice_set, Option, Some, None, Result, Ok, Err, ok_or}
 use Rattle.algorithms.specs.Arrivals.{arrives, line_at, ◌>>=◌}
+use Rattle.algorithms.specs.FirstWords.{first_rows, has_all_values, rows_at_beginning}
 use Rattle.algorithms.specs.LocalRuns.{nothing_noted}
 use Rattle.algorithms.specs.Steps.{lasting_names, step_before_access, advance_of}
 use Rattle.algorithms.specs.declared.access.Address.{Address}
@@ -11,6 +12,7 @@ use Rattle.algorithms.specs.declared.algorithm.AlgorithmCall.{AlgorithmCall}
 use Rattle.algorithms.specs.declared.algorithm.AlgorithmCall.TheVariants.{Lock, Unlock, Recover, Withdraw}
 use Rattle.algorithms.specs.declared.algorithm.Entries.{Entries}
 use Rattle.algorithms.specs.declared.constants.Constants.{Constants}
+use Rattle.algorithms.specs.declared.first_values.InitializedAlgorithm.{InitializedAlgorithm}
 use Rattle.algorithms.specs.declared.line.AccessLine.{AccessLine}
 use Rattle.algorithms.specs.declared.line.LineKind.{LineKind}
 use Rattle.algorithms.specs.declared.line.LineKind.TheVariants.{Access, Local, Done}
@@ -21,11 +23,13 @@ use Rattle.algorithms.specs.declared.process.AlgorithmProcess.{AlgorithmProcess}
 use Rattle.algorithms.specs.declared.refusal.AlgorithmRefusal.{AlgorithmRefusal}
 use Rattle.algorithms.specs.declared.refusal.AlgorithmRefusal.TheVariants.{BadProcs, BadLimit, NoSuchProcess, CallUnderWay, NothingToDo, NotWaiting, NoSuchCall, Malformed, OutOfMemory}
 
--- a world: its algorithm and sizes, a row of shared words for each declaration, and the processes
+-- a world: its algorithm and sizes, the rows of words that first values gave it, where some are said, a row of shared words for each
+-- declaration, and the processes
 pub record AlgorithmWorldState : Type 0 where
   pub algorithm : Algorithm
   pub procs : ℕ
   pub limit : ℕ
+  pub first_rows : Option (List (List ℕ))
   pub words : List (List ℕ)
   pub processes : List AlgorithmProcess
 
@@ -35,25 +39,34 @@ no_names = replicate 32 0
 abbrev pub resting : AlgorithmProcess
 resting = record { place = Rest; store = no_names }
 
--- at the beginning all words are 0 and all processes at rest
-abbrev pub first_world : Algorithm → ℕ → ℕ → AlgorithmWorldState
-first_world a procs limit = record {
+-- a new world of these first rows, in which all processes are at rest
+abbrev pub world_of_rows : Algorithm → ℕ → ℕ → Option (List (List ℕ)) → AlgorithmWorldState
+world_of_rows a procs limit first = record {
   algorithm = a;
   procs = procs;
   limit = limit;
-  words = replicate (length a.declarations.items) (replicate 64 0);
+  first_rows = first;
+  words = rows_at_beginning first (length a.declarations.items);
   processes = replicate procs resting;
 }
 
+-- at the beginning words have their first values, and all processes are at rest
+abbrev pub first_world : InitializedAlgorithm → ℕ → ℕ → AlgorithmWorldState
+first_world a procs limit = world_of_rows a.algorithm procs limit (first_rows a.algorithm procs limit a.first_values)
+
 -- the same world at its beginning
 abbrev pub world_at_beginning : AlgorithmWorldState → AlgorithmWorldState
-world_at_beginning w = record w { words = replicate (length w.words) (replicate 64 0); processes = replicate (length w.processes) resting }
+world_at_beginning w = record w { words = rows_at_beginning w.first_rows (length w.words); processes = replicate (length w.processes) resting }
+
+-- the refusal of sizes for which a constant or a first value has no value
+abbrev pub value_refusal : InitializedAlgorithm → ℕ → ℕ → Option AlgorithmRefusal
+value_refusal a procs limit = if has_all_values a.algorithm procs limit a.first_values then None else Some BadProcs
 
 -- the refusal of a world of this size. Out of memory is not among them
-abbrev pub new_refusal : Algorithm → ℕ → ℕ → Option AlgorithmRefusal
+abbrev pub new_refusal : InitializedAlgorithm → ℕ → ℕ → Option AlgorithmRefusal
 new_refusal a procs limit =
-    if nat_le a.least procs && nat_le procs a.most && nat_le 1 procs && nat_le procs 64
-    then (if nat_lt 0 limit && nat_le limit (2 ^ 62) then None else Some BadLimit)
+    if nat_le a.algorithm.least procs && nat_le procs a.algorithm.most && nat_le 1 procs && nat_le procs 64
+    then (if nat_lt 0 limit && nat_le limit (2 ^ 62) then value_refusal a procs limit else Some BadLimit)
     else Some BadProcs
 
 -- the refusal as a cause. Out of memory has none

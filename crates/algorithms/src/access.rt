@@ -82,7 +82,7 @@ fn bound_of(declaration: &Declaration, constants: Constants, store: &[u64; NAMES
 }
 
 /// What a store of this value stores. `None` where the value does not exist, or is too great.
-fn value_within(
+pub(crate) fn value_within(
     declaration: &Declaration,
     value: &Expression,
     constants: Constants,

@@ -15,6 +15,13 @@ pub struct Promises {
     pub order: bool,
 }
 
+/// A constant of a text: a name for a value of numbers, `procs` and `limit`. Where it stood in a line, its value stands there.
+#[derive(Debug, Drop)]
+pub struct NamedConstant {
+    pub name: String,
+    pub value: Expression,
+}
+
 /// A shared word, or one for each process.
 #[derive(Debug, Drop)]
 pub struct Declaration {
@@ -65,6 +72,7 @@ pub struct Algorithm {
     pub least: u64,
     pub most: u64,
     pub promises: Promises,
+    pub constants: Vec<NamedConstant>,
     pub declarations: Vec<Declaration>,
     /// The private names. The first `lasting` of them stay from call to call, until a crash.
     pub names: Vec<String>,

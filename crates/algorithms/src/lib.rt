@@ -11,6 +11,8 @@ pub mod deeds;
 pub mod expression;
 pub mod fault;
 mod first_rows;
+pub mod first_values;
+mod first_words;
 pub mod line;
 mod local;
 pub mod loops;
@@ -20,11 +22,12 @@ pub mod refusal;
 pub mod world;
 
 pub use access::{Address, Advanced, Moved, Taken, WordAccess};
-pub use algorithm::{Algorithm, AlgorithmCall, Declaration, Entries, Promises};
+pub use algorithm::{Algorithm, AlgorithmCall, Declaration, Entries, NamedConstant, Promises};
 pub use condition::{Comparison, Condition, Pair};
 pub use constants::{Constants, MOST_PROCS};
 pub use expression::{Expression, NAMES, Operator};
 pub use fault::{AlgorithmFault, ReadFault};
+pub use first_values::{FirstValues, InitializedAlgorithm};
 pub use line::{
     AccessLine, Action, AlgorithmDeed, AlgorithmLine, LineKind, LocalLine, Members, WordOf,
 };

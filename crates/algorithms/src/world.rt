@@ -9,7 +9,9 @@ use crate::access::{Address, Advanced, Moved, Taken, WordAccess, act};
 use crate::algorithm::{Algorithm, AlgorithmCall};
 use crate::constants::{Constants, MOST_PROCS};
 use crate::expression::NAMES;
-use crate::first_rows::{all_at_rest, all_zero, rest_all, zero_all};
+use crate::first_rows::{FirstRows, all_at_rest, rest_all, restart_rows, rows_at_beginning};
+use crate::first_values::InitializedAlgorithm;
+use crate::first_words::{first_rows, has_all_values};
 use crate::line::{AccessLine, LineKind};
 use crate::local::{LocalState, arrive};
 use crate::noted::NotedDeeds;
@@ -29,6 +31,7 @@ pub struct AlgorithmWorld {
     algorithm: Arc<Algorithm>,
     procs: u64,
     limit: u64,
+    first_rows: Arc<Option<FirstRows>>,
     words: Vec<[u64; MOST_PROCS]>,
     processes: Vec<AlgorithmProcess>,
 }
@@ -46,13 +49,21 @@ impl Model for AlgorithmWorld {
     ghost use Rattle.std.specs.Coded.{codes};
     ghost use Rattle.algorithms.specs.contracts.condition.Condition as condition;
     ghost use Rattle.algorithms.specs.contracts.expression.Expression as expression;
+    ghost use Rattle.algorithms.specs.FirstWords.{held_rows};
     ghost use Rattle.algorithms.specs.Worlds.{AlgorithmWorldState};
 
     ghost Value = { AlgorithmWorldState };
 
     ghost coded = { Prim.hlevel (codes, expression.the_row.coded, condition.the_row.coded) };
 
-    ghost view = { λ w. record { algorithm = arc_value w.algorithm; procs = w.procs; limit = w.limit; words = w.words.items; processes = w.processes.items } };
+    ghost view = { λ w. record {
+      algorithm = arc_value w.algorithm;
+      procs = w.procs;
+      limit = w.limit;
+      first_rows = held_rows (arc_value w.first_rows);
+      words = w.words.items;
+      processes = w.processes.items;
+    } };
 
     ghost invariant = { λ w. vec_len w.processes ≡ w.procs };
 }
@@ -213,12 +224,13 @@ fn step_from(before: &LocalState, advanced: &Advanced, state: &LocalState) -> Ta
 impl AlgorithmWorld {
     ghost use Rattle.algorithms.specs.Worlds.{first_world, new_refusal, cause, constants_of, process_of, start, start_of_process, step, advance, crash, world_at_beginning, with_process};
 
-    /// A world with all words 0 and all processes at rest. `limit` is the algorithm's `limit`.
+    /// A world with the first values of all words, and all processes at rest. `limit` is the algorithm's `limit`.
     ///
-    /// `BadProcs`: the algorithm is not for this number of processes. `BadLimit`: not 1 to 2^62.
+    /// `BadProcs`: the algorithm is not for this number of processes. `BadLimit`: not 1 to 2^62. `BadProcs` also where at these
+    /// sizes a constant or a first value is out of range, or a first value above its bound.
     pub fn new(
         alloc: Global,
-        algorithm: Algorithm,
+        algorithm: InitializedAlgorithm,
         procs: u64,
         limit: u64,
     ) -> Result<AlgorithmWorld, AlgorithmRefusal>
@@ -226,6 +238,10 @@ impl AlgorithmWorld {
         ensures refused { IfErr result (λ e. new_refusal algorithm procs limit ≡ cause e) }
         ensures world { IfOk result (λ w. w ≡ first_world algorithm procs limit) }
     {
+        let InitializedAlgorithm {
+            algorithm,
+            first_values,
+        } = algorithm;
         if procs < algorithm.least
             || procs > algorithm.most
             || procs == 0
@@ -236,13 +252,19 @@ impl AlgorithmWorld {
         if limit == 0 || limit > MOST_LIMIT {
             return Err(AlgorithmRefusal::BadLimit);
         }
-        let words = all_zero(alloc, algorithm.declarations.len())?;
+        if !has_all_values(&algorithm, &first_values, procs, limit) {
+            return Err(AlgorithmRefusal::BadProcs);
+        }
+        let rows = first_rows(alloc, &algorithm, &first_values, procs, limit)?;
+        let words = rows_at_beginning(alloc, &rows, algorithm.declarations.len())?;
         let processes = all_at_rest(alloc, procs as usize)?;
         let algorithm = Arc::new(alloc, algorithm)?;
+        let first_rows = Arc::new(alloc, rows)?;
         Ok(AlgorithmWorld {
             algorithm,
             procs,
             limit,
+            first_rows,
             words,
             processes,
         })
@@ -354,23 +376,25 @@ impl AlgorithmWorld {
         ensures world { IfOk result (λ w. w ≡ world_at_beginning self.now) }
         ensures memory { IfErr result (λ e. e ≡ AlgorithmRefusal.OutOfMemory) }
     {
-        let words = all_zero(alloc, self.words.len())?;
+        let words = rows_at_beginning(alloc, &self.first_rows, self.words.len())?;
         let processes = all_at_rest(alloc, self.processes.len())?;
         let algorithm = Arc::try_clone(&self.algorithm)?;
+        let first_rows = Arc::try_clone(&self.first_rows)?;
         Ok(AlgorithmWorld {
             algorithm,
             procs: self.procs,
             limit: self.limit,
+            first_rows,
             words,
             processes,
         })
     }
 
-    /// Makes all words 0 and puts all processes at rest, as in a new world of the same sizes.
+    /// Gives all words their first values and puts all processes at rest, as in a new world of the same sizes.
     pub fn restart(&mut self)
         ensures { self.new ≡ world_at_beginning self.old }
     {
-        zero_all(self.words.as_mut_slice());
+        restart_rows(self.words.as_mut_slice(), &self.first_rows);
         rest_all(self.processes.as_mut_slice());
     }
 

@@ -1,4 +1,4 @@
-use Rattle.std.proofs.Common.{◌≡◌, ℕ, ◌<◌, ◌≤◌, Option, Some, refl, ◌∙◌, arith}
+use Rattle.std.proofs.Common.{◌≡◌, ℕ, ◌<◌, ◌≤◌, Option, Some, refl, arith}
 use Rattle.algorithms.proofs.CallLines.{BeginsBetween, is_of_another}
 use Rattle.algorithms.proofs.deeds.is_line_of.Goals as goal
 use Rattle.algorithms.proofs.deeds.is_line_of.Goals.{then-entry-at, else-entry-at, then-is_outside, else-is_outside, then-is_outside-2, else-is_outside-2}

@@ -3,6 +3,7 @@ use Rattle.std.proofs.lemmas.Grind.{common_steps}
 use Rattle.std.proofs.lemmas.List.{with_items_is}
 use Rattle.std.specs.Arc.{arc_value}
 use Rattle.std.specs.Vec.{with_items}
+use Rattle.algorithms.specs.FirstWords.{held_rows}
 use Rattle.algorithms.specs.Worlds.{AlgorithmWorldState, words_after_access}
 use Rattle.algorithms.proofs.Worlds.{blocked_step, stored_many}
 use Rattle.algorithms.proofs.world.AlgorithmWorld.advance.Goals as goal
@@ -11,7 +12,7 @@ pub returns-else-not-advanced-clause-ok : goal.returns-else-not-advanced-clause-
 returns-else-not-advanced-clause-ok c =
     let a = c.in_ok-advanced.advanced in
     let rows : List (List ℕ) = c.self.inside.words.items in
-    let world : AlgorithmWorldState = record { algorithm = arc_value c.self.inside.algorithm; procs = c.self.inside.procs; limit = c.self.inside.limit; words = rows; processes = c.self.inside.processes.items } in
+    let world : AlgorithmWorldState = record { algorithm = arc_value c.self.inside.algorithm; procs = c.self.inside.procs; limit = c.self.inside.limit; first_rows = held_rows (arc_value c.self.inside.first_rows); words = rows; processes = c.self.inside.processes.items } in
     let many : length rows ≡ c.self.inside.words.len = first_of (search rules, grind (arith, common_steps)) in
     let changed : c.store.new.words ≡ words_after_access rows a.access.address a.access.stores = search rules in
     let within : length c.store.new.words ≡ c.self.inside.words.len = ap length changed ∙ stored_many rows a.access.address a.access.stores ∙ many in

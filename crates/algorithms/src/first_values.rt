@@ -1,0 +1,20 @@
+//! Algorithms with the first values of their words.
+
+use crate::algorithm::Algorithm;
+use crate::expression::Expression;
+
+/// The first values of the words of an algorithm.
+#[derive(Debug, Drop)]
+pub struct FirstValues {
+    /// That of the words of each declaration, in which `Me` is the index of the word. 0 where there is none.
+    pub starts: Vec<Option<Expression>>,
+}
+
+/// An algorithm, and the first values of its words. A world of it has them only for sizes for which each of them and each constant
+/// is in range.
+#[derive(Debug, Drop)]
+pub struct InitializedAlgorithm {
+    pub algorithm: Algorithm,
+    /// All words are 0 at the beginning where there are none, and no size is refused for the value of a constant.
+    pub first_values: Option<FirstValues>,
+}

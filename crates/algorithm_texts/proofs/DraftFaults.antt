@@ -15,8 +15,7 @@ use Rattle.algorithm_texts.specs.FinishedDrafts.{with_lines, call_in, kind_led, 
 use Rattle.algorithm_texts.specs.Lawful.{KindFits, NotesDeed}
 use Rattle.algorithm_texts.specs.Programs.{SpellsDraft, meaning_of, program_lines}
 use Rattle.algorithm_texts.specs.Runs.{AllRuns}
-use Rattle.algorithm_texts.specs.TextFaults.{OrMemory, KindCallFits, IsOfFirst, IsFaultOfKindCall, IsFaultOfWithdraw, IsFaultOfAllCalls, all_kinds, has_both_calls, IsFaultOfAllRuns, IsFaultOfWays, IsFaultOfEither, IsFaultOfDeeds, IsFaultOfFlow, IsFaultOfLater, IsFaultOfText, number_of_kind}
-use Rattle.algorithm_texts.specs.TextLines.{IsFirstFaultyLine, SaysUpTo}
+use Rattle.algorithm_texts.specs.TextFaults.{OrMemory, KindCallFits, IsOfFirst, IsFaultOfKindCall, IsFaultOfWithdraw, IsFaultOfAllCalls, all_kinds, has_both_calls, IsFaultOfAllRuns, IsFaultOfWays, IsFaultOfEither, IsFaultOfDeeds, IsFaultOfFlow, IsFaultOfLater, IsFaultOfLines, IsFaultOfText, number_of_kind}
 use Rattle.algorithm_texts.specs.UnreachedLines.{EndUnreached}
 use Rattle.algorithm_texts.proofs.BlockTrees.{some_of}
 use Rattle.algorithm_texts.proofs.TreeLines.{program_read}
@@ -114,7 +113,7 @@ withdraw_found d begun lock unlock recover last fault e l u r w h =
 -- ---- texts
 
 -- a text whose lines make no draft
-pub unread_fault : (text : List ℕ) (fault : AlgorithmFault) → OrMemory fault (IsFirstFaultyLine fault (SaysUpTo text) ⊎ IsFaultOfLater text fault)
+pub unread_fault : (text : List ℕ) (fault : AlgorithmFault) → OrMemory fault (IsFaultOfLines text fault ⊎ IsFaultOfLater text fault)
     → OrMemory fault (IsFaultOfText text fault)
 unread_fault text fault (inl e) = inl e
 unread_fault text fault (inr (inl line)) = inr (inl line)

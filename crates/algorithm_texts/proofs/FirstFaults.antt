@@ -1,5 +1,5 @@
 -- Which line of a text is the first that is refused.
-use Rattle.std.proofs.Common.{◌≡◌, ℕ, ◌+◌, ◌<◌, ◌≤◌, List, [], ◌∷◌, ◌++◌, length, true, Ok, refl, sym, ap, ◌∙◌, subst, inl, inr, append_assoc, arith}
+use Rattle.std.proofs.Common.{◌≡◌, ◌⊎◌, ℕ, ◌+◌, ◌<◌, ◌≤◌, List, [], ◌∷◌, ◌++◌, length, true, Ok, Err, refl, sym, ap, ◌∙◌, subst, inl, inr, append_assoc, arith}
 use Rattle.std.specs.List.{list_all}
 use Rattle.std.proofs.lemmas.List.{length-append}
 use Rattle.algorithms.specs.Faults.{fault_of}
@@ -10,10 +10,11 @@ use Rattle.algorithm_texts.specs.declared.tokens.Token.{Token}
 use Rattle.algorithm_texts.specs.Fronts.{is_over}
 use Rattle.algorithm_texts.specs.TextLines.{ended_lines, and_line, is_no_feed, SayLines, SaysTokens, SaysBefore, SaysUpTo, IsRefusalOf, IsAt, IsFirstFaultyLine}
 use Rattle.algorithm_texts.specs.TextDrafts.{Spoken}
+use Rattle.algorithm_texts.specs.TextFaults.{IsFaultOfCount, IsFaultOfLines, IsFaultOfNext, IsFaultOfTokens, IsPastLimit, NamesFirstLine, OrMemory}
 use Rattle.algorithm_texts.specs.Tokens.{LineSays}
 use Rattle.algorithm_texts.proofs.LineTokens.{line_says_once}
 use Rattle.algorithm_texts.proofs.LinesOnce.{split_once, says_free, same_ok}
-use Rattle.algorithm_texts.proofs.RefusedLines.{IsNext, First, next_is, few_with, some_feed, refused_where}
+use Rattle.algorithm_texts.proofs.RefusedLines.{IsNext, First, next_is, few_with, some_feed, refused_where, says_none}
 use Rattle.algorithm_texts.proofs.SpokenLines.{and_at}
 
 -- a fault of a line is at it
@@ -38,10 +39,16 @@ fault_at line BadCall = inr (17, refl)
 fault_at line NeverReached = inr (18, refl)
 fault_at line NoMemory = inl refl
 
-pub first_fault : (fault : AlgorithmFault) (line : ℕ) (Upto : ℕ → Type 0) → IsAt fault line → Upto line → IsRefusalOf fault (Upto (line + 1)) → IsFirstFaultyLine fault Upto
+first_fault : (fault : AlgorithmFault) (line : ℕ) (Upto : ℕ → Type 0) → IsAt fault line → Upto line → IsRefusalOf fault (Upto (line + 1)) → IsFirstFaultyLine fault Upto
 first_fault fault line Upto (inl e) h r = inl e
 first_fault fault line Upto (inr k) h (inl e) = inl e
 first_fault fault line Upto (inr k) h (inr n) = inr (line, k.0, k.1, h, n)
+
+-- the fault of a line's bytes, within the limits
+pub tokens_fault : (number : ℕ) (line : List ℕ) (kind : ReadFault) → number ≤ 4096 → length line ≤ 1000 → (kind ≡ NoMemory) ⊎ LineSays line (Err kind)
+    → OrMemory (fault_of number kind) (IsFaultOfTokens number line (fault_of number kind))
+tokens_fault number line kind few short (inl e) = inl (ap (fault_of number) e)
+tokens_fault number line kind few short (inr h) = inr (inr (few, short, kind, h, refl))
 
 -- lines after those that came first, with bytes after them
 record AfterSome (n : ℕ) (first lines : List (List ℕ)) (said all : List Spoken) (rest tail : List ℕ) : Type 0 where
@@ -112,22 +119,40 @@ next_before text rest line after number said h free split w =
 
 -- ---- faults
 
-pub line_first : (fault : AlgorithmFault) (text rest line after : List ℕ) (number : ℕ) (said : List Spoken) → IsAt fault number → SaysBefore text rest number said
+-- the line that comes next is at fault
+pub line_at_fault : (text rest line after : List ℕ) (number : ℕ) (said : List Spoken) (fault : AlgorithmFault) → SaysBefore text rest number said
+    → rest ≡ line ++ (10 ∷ after) → list_all is_no_feed line ≡ true → IsFaultOfTokens number line fault ⊎ IsFaultOfCount number line said fault → IsFaultOfLines text fault
+line_at_fault text rest line after number said fault before split free h = record { number = number; rest = rest; said = said; before = before; next = inr (line, after, split, free, h) }
+
+-- no tokens are said within the limits where a line's bytes are at fault
+past_limit : (number : ℕ) (line : List ℕ) → IsPastLimit number line → SaysTokens number line → ⊥
+past_limit number line (inl many) w = let few = w.0 in omega (arith, many, few)
+past_limit number line (inr long) w = let short = w.1 in omega (arith, long, short)
+
+unsaid_line : (number : ℕ) (line : List ℕ) (fault : AlgorithmFault) → IsFaultOfTokens number line fault → IsRefusalOf fault (SaysTokens number line) × IsAt fault number
+unsaid_line number line fault (inl h) = (inr (past_limit number line h.0), subst (λ f. IsAt f number) (sym h.1) (fault_at number TooBig))
+unsaid_line number line fault (inr h) = (
+  subst (λ f. IsRefusalOf f (SaysTokens number line)) (sym h.4) (says_none number line h.2 (inr h.3)),
+  subst (λ f. IsAt f number) (sym h.4) (fault_at number h.2),
+)
+
+line_first : (fault : AlgorithmFault) (text rest line after : List ℕ) (number : ℕ) (said : List Spoken) → IsAt fault number → SaysBefore text rest number said
     → list_all is_no_feed line ≡ true → rest ≡ line ++ (10 ∷ after) → IsRefusalOf fault (SaysTokens number line) → IsFirstFaultyLine fault (SaysUpTo text)
 line_first fault text rest line after number said at h free split r =
     first_fault fault number (SaysUpTo text) at (rest, said, h)
     (refused_where fault (SaysTokens number line) (SaysUpTo text (number + 1))
     (λ w. let t = next_before text rest line after number said h free split w in (t.few, t.short, t.tokens, t.answer, t.says)) r)
 
-pub many_first : (fault : AlgorithmFault) (text rest line after : List ℕ) (number : ℕ) (said : List Spoken) (tokens : List Token) (answer : List ℕ) → IsAt fault number
-    → SaysBefore text rest number said → list_all is_no_feed line ≡ true → rest ≡ line ++ (10 ∷ after) → LineSays line (Ok (tokens, answer))
-    → IsRefusalOf fault (length (said ++ and_line number tokens answer []) ≤ 1024) → IsFirstFaultyLine fault (SaysUpTo text)
-many_first fault text rest line after number said tokens answer at h free split says r =
-    first_fault fault number (SaysUpTo text) at (rest, said, h)
-    (refused_where fault (length (said ++ and_line number tokens answer []) ≤ 1024) (SaysUpTo text (number + 1))
-    (λ w. few_with number line said tokens answer says w.1 (next_before text rest line after number said h free split w)) r)
+count_first : (fault : AlgorithmFault) (text rest line after : List ℕ) (number : ℕ) (said : List Spoken) → SaysBefore text rest number said
+    → list_all is_no_feed line ≡ true → rest ≡ line ++ (10 ∷ after) → IsFaultOfCount number line said fault → IsFirstFaultyLine fault (SaysUpTo text)
+count_first fault text rest line after number said h free split many =
+    first_fault fault number (SaysUpTo text) (subst (λ f. IsAt f number) (sym many.6) (fault_at number TooBig)) (rest, said, h)
+    (inr (λ w.
+    let few = few_with number line said many.2 many.3 many.4 w.1 (next_before text rest line after number said h free split w) in
+    let more = many.5 in
+    omega (arith, few, more)))
 
-pub end_first : (fault : AlgorithmFault) (text rest : List ℕ) (number : ℕ) (said : List Spoken) → IsAt fault number → SaysBefore text rest number said
+end_first : (fault : AlgorithmFault) (text rest : List ℕ) (number : ℕ) (said : List Spoken) → IsAt fault number → SaysBefore text rest number said
     → list_all is_no_feed rest ≡ true → IsFirstFaultyLine fault (SaysUpTo text)
 end_first fault text rest number said at h free =
     first_fault fault number (SaysUpTo text) at (rest, said, h)
@@ -136,3 +161,18 @@ end_first fault text rest number said at h free =
     let less : length h.lines ≤ length k.lines = omega (arith, h.count, k.count) in
     let a = after_some 1 h.lines k.lines said w.1 rest w.0 less h.say k.say (sym k.bytes ∙ h.bytes) in
     some_feed a.more rest w.0 (more_come h.lines k.lines a.more number a.is h.count k.count) a.bytes free))
+
+next_first : (text rest : List ℕ) (number : ℕ) (said : List Spoken) (fault : AlgorithmFault) → SaysBefore text rest number said → IsFaultOfNext number rest said fault
+    → IsFirstFaultyLine fault (SaysUpTo text)
+next_first text rest number said fault h (inl end) =
+    end_first fault text rest number said (subst (λ f. IsAt f number) (sym end.2) (fault_at number NoNewline)) h end.1
+next_first text rest number said fault h (inr k) = elim k.4 [
+  | inl tokens ↦
+      let u = unsaid_line number k.0 fault tokens in
+      line_first fault text rest k.0 k.1 number said u.1 h k.3 k.2 u.0
+  | inr count ↦ count_first fault text rest k.0 k.1 number said h k.3 k.2 count
+]
+
+-- the fault of the first round is at the first line with which the lines no longer say tokens
+pub names_first_line : NamesFirstLine
+names_first_line = λ text fault h. next_first text h.rest h.number h.said fault h.before h.next

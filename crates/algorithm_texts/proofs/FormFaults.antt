@@ -9,18 +9,18 @@ use Rattle.algorithms.specs.declared.fault.ReadFault.{ReadFault}
 use Rattle.algorithms.specs.declared.fault.ReadFault.TheVariants.{NoHeader}
 use Rattle.algorithm_texts.specs.declared.filled.Filled.{Filled}
 use Rattle.algorithm_texts.specs.Drafts.{Drafted}
-use Rattle.algorithm_texts.specs.Operands.{RefusesOperand}
+use Rattle.algorithm_texts.specs.Operands.{RefusesAs}
+use Rattle.algorithm_texts.specs.LineFaults.{head_fault, line_fault, promises_fault}
 use Rattle.algorithm_texts.specs.TextDrafts.{read_head, read_line, read_promises, empty_draft, with_number}
 use Rattle.algorithm_texts.specs.TextFaults.{OrMemory, StopsOnLine, BeginsDraft, IsFaultOfForms, IsFaultOfHead, IsFaultOfSecond}
 use Rattle.algorithm_texts.specs.TextLines.{second_said, spoken_of}
-use Rattle.algorithm_texts.proofs.FirstFaults.{fault_at}
 use Rattle.algorithm_texts.proofs.TextBeginnings.{second_line}
 
 -- a line's fault, as the text's
-pub stops_at : {A : Type 0} (line : ℕ) (fault : ReadFault) (at : AlgorithmFault) (o : Option A) → at ≡ fault_of line fault → RefusesOperand fault o
-    → OrMemory at (StopsOnLine line o at)
-stops_at line fault at o e (inl m) = inl (e ∙ ap (fault_of line) m)
-stops_at line fault at o e (inr none) = elim (fault_at line fault) [ inl m ↦ inl (e ∙ m) | inr k ↦ inr (none, k.0, e ∙ k.1) ]
+pub stops_at : {A : Type 0} (line : ℕ) (fault kind : ReadFault) (at : AlgorithmFault) (o : Option A) → at ≡ fault_of line fault → RefusesAs fault o kind
+    → OrMemory at (StopsOnLine line o kind at)
+stops_at line fault kind at o e (inl m) = inl (e ∙ ap (fault_of line) m)
+stops_at line fault kind at o e (inr h) = inr (h.0, e ∙ ap (fault_of line) h.1)
 
 -- ---- lines
 
@@ -43,7 +43,8 @@ forms_on lines i line first d now fault less at made back h =
 -- a line more makes none
 pub forms_stop : (lines : List Filled) (i : ℕ) (line : Filled) (first d : Drafted) (fault : AlgorithmFault) → i < length lines → line ≡ get_or lines i line
     → (IsFaultOfForms d (map spoken_of (drop i lines)) fault → IsFaultOfForms first (map spoken_of lines) fault)
-    → OrMemory fault (StopsOnLine line.number (read_line (with_number line.number d) line.tokens.all.items line.tokens.answer.items d.number) fault)
+    → OrMemory fault (StopsOnLine line.number (read_line (with_number line.number d) line.tokens.all.items line.tokens.answer.items d.number)
+    (line_fault (with_number line.number d) line.tokens.all.items d.number) fault)
     → OrMemory fault (IsFaultOfForms first (map spoken_of lines) fault)
 forms_stop lines i line first d fault less at back (inl m) = inl m
 forms_stop lines i line first d fault less at back (inr h) =
@@ -60,7 +61,7 @@ second_missing lines first fault e named =
     inr (subst (λ o. IsFaultOfSecond first o fault) (sym (slice_get-map spoken_of lines 1 ∙ ap (option_map spoken_of) e)) named)
 
 pub second_stops : (lines : List Filled) (first : ℕ) (second : Filled) (fault : AlgorithmFault) → slice_get lines 1 ≡ Some second
-    → OrMemory fault (StopsOnLine second.number (read_promises second.tokens.all.items) fault) → OrMemory fault (IsFaultOfSecond first (slice_get (map spoken_of lines) 1) fault)
+    → OrMemory fault (StopsOnLine second.number (read_promises second.tokens.all.items) (promises_fault second.tokens.all.items) fault) → OrMemory fault (IsFaultOfSecond first (slice_get (map spoken_of lines) 1) fault)
 second_stops lines first second fault e h =
     subst (λ o. OrMemory fault (IsFaultOfSecond first o fault)) (sym (at_first lines 1 second e)) h
 
@@ -70,7 +71,7 @@ first_missing lines fault e named =
     inr (subst (λ o. IsFaultOfHead o (slice_get (map spoken_of lines) 1) fault) (sym (slice_get-map spoken_of lines 0 ∙ ap (option_map spoken_of) e)) named)
 
 pub first_stops : (lines : List Filled) (first : Filled) (fault : AlgorithmFault) → slice_get lines 0 ≡ Some first
-    → OrMemory fault (StopsOnLine first.number (read_head first.tokens.all.items) fault)
+    → OrMemory fault (StopsOnLine first.number (read_head first.tokens.all.items) (head_fault first.tokens.all.items) fault)
     → OrMemory fault (IsFaultOfHead (slice_get (map spoken_of lines) 0) (slice_get (map spoken_of lines) 1) fault)
 first_stops lines first fault e (inl m) = inl m
 first_stops lines first fault e (inr h) =

@@ -3,6 +3,7 @@ use Rattle.std.proofs.Common.{◌≡◌, ℕ, List, Some, sym, ap, ◌∙◌, su
 use Rattle.std.proofs.lemmas.Option.{same_Some}
 use Rattle.algorithms.specs.declared.algorithm.Algorithm.{Algorithm}
 use Rattle.algorithms.specs.declared.fault.AlgorithmFault.{AlgorithmFault}
+use Rattle.algorithms.specs.declared.first_values.InitializedAlgorithm.{InitializedAlgorithm}
 use Rattle.algorithms.specs.declared.line.AlgorithmDeed.TheVariants.{Enter, Leave}
 use Rattle.algorithms.specs.Deeds.{SaysDeed}
 use Rattle.algorithm_texts.specs.Parts.{◌>>=◌}
@@ -20,19 +21,19 @@ use Rattle.algorithm_texts.proofs.RunChecks.{refused_part}
 
 -- all algorithms that a text spells are of this draft
 abbrev pub IsItsDraft : List ℕ → Drafted → Type 0
-IsItsDraft text d = (a : Algorithm) (s : SpellsAlgorithm text a) → s.draft ≡ d
+IsItsDraft text d = (a : InitializedAlgorithm) (s : SpellsAlgorithm text a) → s.draft ≡ d
 
 -- so they are of the one that is read
 pub its_draft : (text : List ℕ) (spoken : List Spoken) (d : Drafted) → TextSays text spoken → (read_text spoken >>= finished_draft) ≡ Some d → IsItsDraft text d
 its_draft text spoken d says reads = λ a s. same_Some s.draft d (sym (spelled_read text a spoken s says) ∙ reads)
 
 -- the runs of such a draft do what they may, and its lines can end
-pub flow_of : (text : List ℕ) (d : Drafted) → IsItsDraft text d → (a : Algorithm) → SpellsAlgorithm text a
+pub flow_of : (text : List ℕ) (d : Drafted) → IsItsDraft text d → (a : InitializedAlgorithm) → SpellsAlgorithm text a
     → AllRuns d × ((lines : List PlacedLine) × EndUnreached d lines)
-flow_of text d its a s = subst (λ x. AllRuns x × ((lines : List PlacedLine) × EndUnreached x lines)) (its a s) (s.lawful.runs, (lines_of a, s.is_of.lines))
+flow_of text d its a s = subst (λ x. AllRuns x × ((lines : List PlacedLine) × EndUnreached x lines)) (its a s) (s.lawful.runs, (lines_of a.algorithm, s.is_of.algorithm.lines))
 
 -- the algorithm that is made of it says that it enters, and that it leaves
-pub deeds_of : (text : List ℕ) (d : Drafted) → IsItsDraft text d → (a : Algorithm) → SpellsAlgorithm text a → (made : Algorithm) → EndUnreached d (lines_of made)
+pub deeds_of : (text : List ℕ) (d : Drafted) → IsItsDraft text d → (a : InitializedAlgorithm) → SpellsAlgorithm text a → (made : Algorithm) → EndUnreached d (lines_of made)
     → made.entries ≡ d.head.entries → SaysDeed made made.entries.lock Enter × SaysDeed made made.entries.unlock Leave
 deeds_of text d its a s made lines entries =
     let enters : NotesDeed d d.head.entries.lock Enter = subst (λ x. NotesDeed x x.head.entries.lock Enter) (its a s) s.lawful.enters in
@@ -43,14 +44,14 @@ deeds_of text d its a s made lines entries =
 
 -- where the runs are refused no algorithm is spelled, or memory runs out
 pub flow_refused : (text : List ℕ) (d : Drafted) (fault : AlgorithmFault) → IsItsDraft text d
-    → IsRefusalOf fault (AllRuns d × ((lines : List PlacedLine) × EndUnreached d lines)) → IsRefusalOf fault ((a : Algorithm) × SpellsAlgorithm text a)
+    → IsRefusalOf fault (AllRuns d × ((lines : List PlacedLine) × EndUnreached d lines)) → IsRefusalOf fault ((a : InitializedAlgorithm) × SpellsAlgorithm text a)
 flow_refused text d fault its refused =
-    refused_part fault (AllRuns d × ((lines : List PlacedLine) × EndUnreached d lines)) ((a : Algorithm) × SpellsAlgorithm text a)
+    refused_part fault (AllRuns d × ((lines : List PlacedLine) × EndUnreached d lines)) ((a : InitializedAlgorithm) × SpellsAlgorithm text a)
     (λ w. flow_of text d its w.0 w.1) refused
 
 -- where a deed is not said no algorithm is spelled
 pub deeds_refused : (text : List ℕ) (d : Drafted) (made : Algorithm) → IsItsDraft text d → EndUnreached d (lines_of made) → made.entries ≡ d.head.entries
-    → (SaysDeed made made.entries.lock Enter → SaysDeed made made.entries.unlock Leave → ⊥) → (a : Algorithm) → SpellsAlgorithm text a → ⊥
+    → (SaysDeed made made.entries.lock Enter → SaysDeed made made.entries.unlock Leave → ⊥) → (a : InitializedAlgorithm) → SpellsAlgorithm text a → ⊥
 deeds_refused text d made its lines entries unsaid a s =
     let says = deeds_of text d its a s made lines entries in
     unsaid says.0 says.1

@@ -11,14 +11,15 @@ use Rattle.algorithm_texts.specs.Parts.{◌>>=◌}
 use Rattle.algorithm_texts.specs.Fronts.{is_the_word, is_over, named_by}
 use Rattle.algorithm_texts.specs.Drafts.{Drafted, draft_view}
 use Rattle.algorithm_texts.specs.LineDrafts.{read_statement, scope_in}
-use Rattle.algorithm_texts.specs.TextDrafts.{Spoken, with_number, empty_draft, call_words, has_call, with_call, end_call_in, end_call, ended_calls, read_call, undeclared_name, read_each, read_bound, with_lasting, read_shared, read_private, read_declaration, read_line, read_lines, read_head, read_promises, read_text}
+use Rattle.algorithm_texts.specs.TextDrafts.{Spoken, with_number, empty_draft, call_words, has_call, with_call, end_call_in, end_call, ended_calls, read_call, undeclared_name, read_each, read_bound_and_start, with_lasting, read_shared, read_private, read_constant_value, read_constant, read_declaration, read_line, read_lines, read_head, read_promises, read_text}
 use Rattle.algorithm_texts.specs.TextLines.{TextSays}
 use Rattle.algorithm_texts.specs.Blocks.{Block, lines_in, begins_block, divides, ends, draft_after_block, read_statements}
 use Rattle.algorithm_texts.specs.FinishedDrafts.{finished_draft, with_lines}
-use Rattle.algorithm_texts.specs.UnreachedLines.{EndUnreached}
+use Rattle.algorithm_texts.specs.UnreachedLines.{EndUnreached, said_starts, starts_in}
 use Rattle.algorithm_texts.specs.Lawful.{CallsFit, NotesDeed}
 use Rattle.algorithm_texts.specs.Programs.{CallLines, Program, calls_lines, program_lines, declarations_made, call_begun, calls_made, meaning_of, SpellsAlgorithm, SpellsDraft}
 use Rattle.algorithm_texts.specs.Runs.{AllRuns}
+use Rattle.algorithms.specs.declared.first_values.FirstValues.{FirstValues}
 use Rattle.algorithms.specs.declared.line.AlgorithmDeed.TheVariants.{Enter, Leave}
 use Rattle.algorithm_texts.proofs.BlockTrees.{some_of, if_of, if_cond, on_all, rest_of, alone_rest, begins_calls, divides_calls, ends_calls}
 use Rattle.algorithm_texts.proofs.BlockPaths.{kinds, make_blocks}
@@ -44,21 +45,29 @@ around d = (d.opened, d.calls)
 
 shared_stays : (d : Drafted) (tokens : List Token) → IfSome (read_shared d tokens) (λ now. around now ≡ around d)
 shared_stays d tokens =
-    on_all (λ now. around now ≡ around d) (undeclared_name d.declared d.names (slice_get tokens 0)) _
+    on_all (λ now. around now ≡ around d) (undeclared_name (scope_in d) d.names (slice_get tokens 0)) _
     (λ name. on_all (λ now. around now ≡ around d) (cond (ltb (length d.declared) 64) (read_each (drop 1 tokens)) None) _
-    (λ each. on_all (λ now. around now ≡ around d) (read_bound (scope_in d) d.names each.1) _ (λ bound. refl)))
+    (λ each. on_all (λ now. around now ≡ around d) (read_bound_and_start (scope_in d) each.0 d.names each.1) _ (λ v. refl)))
 
 private_stays : (d : Drafted) (tokens : List Token) → IfSome (read_private d tokens) (λ now. around now ≡ around d)
 private_stays d tokens =
-    on_all (λ now. around now ≡ around d) (undeclared_name d.declared d.names (slice_get tokens 0)) _
+    on_all (λ now. around now ≡ around d) (undeclared_name (scope_in d) d.names (slice_get tokens 0)) _
     (λ name. if_cond (λ now. around now ≡ around d) (ltb (length d.names) 32) (cond (is_over (drop 1 tokens)) (Some (with_lasting name d)) None) None
     (if_cond (λ now. around now ≡ around d) (is_over (drop 1 tokens)) (Some (with_lasting name d)) None refl tt) tt)
+
+constant_stays : (d : Drafted) (tokens : List Token) → IfSome (read_constant d tokens) (λ now. around now ≡ around d)
+constant_stays d tokens =
+    on_all (λ now. around now ≡ around d) (undeclared_name (scope_in d) d.names (slice_get tokens 0)) _
+    (λ name. on_all (λ now. around now ≡ around d) (read_constant_value (scope_in d) d.names (drop 1 tokens)) _ (λ v. refl))
 
 pub declaration_stays : (d : Drafted) (tokens : List Token) → IfSome (read_declaration d tokens) (λ now. around now ≡ around d)
 declaration_stays d tokens =
     if_cond (λ now. around now ≡ around d) (is_the_word (slice_get tokens 0) (codes "shared")) (read_shared d (drop 1 tokens))
-    (cond (is_the_word (slice_get tokens 0) (codes "private")) (read_private d (drop 1 tokens)) None) (shared_stays d (drop 1 tokens))
-    (if_cond (λ now. around now ≡ around d) (is_the_word (slice_get tokens 0) (codes "private")) (read_private d (drop 1 tokens)) None (private_stays d (drop 1 tokens)) tt)
+    (cond (is_the_word (slice_get tokens 0) (codes "private")) (read_private d (drop 1 tokens))
+    (cond (is_the_word (slice_get tokens 0) (codes "constant")) (read_constant d (drop 1 tokens)) None)) (shared_stays d (drop 1 tokens))
+    (if_cond (λ now. around now ≡ around d) (is_the_word (slice_get tokens 0) (codes "private")) (read_private d (drop 1 tokens))
+    (cond (is_the_word (slice_get tokens 0) (codes "constant")) (read_constant d (drop 1 tokens)) None) (private_stays d (drop 1 tokens))
+    (if_cond (λ now. around now ≡ around d) (is_the_word (slice_get tokens 0) (codes "constant")) (read_constant d (drop 1 tokens)) None (constant_stays d (drop 1 tokens)) tt))
 
 -- ---- where a call ends
 
@@ -255,23 +264,26 @@ spelled_draft text read ready spoken says reads finishes fit =
     record { program = p.0; says = subst (λ ss. TextSays text ss) (sym p.1) says; means = ap (λ o. o >>= finished_draft) p.2 ∙ finishes; fit = fit }
 
 -- the algorithm of a draft whose runs do what they may, with the deeds of its lock and its unlock
-pub spelled : (text : List ℕ) (ready checked : Draft) → SpellsDraft text (draft_view ready) → AllRuns (draft_view ready)
+pub spelled : (text : List ℕ) (ready checked : Draft) (first : Option FirstValues) → SpellsDraft text (draft_view ready) → AllRuns (draft_view ready)
     → NotesDeed (draft_view ready) (draft_view ready).head.entries.lock Enter → NotesDeed (draft_view ready) (draft_view ready).head.entries.unlock Leave
     → EndUnreached (draft_view ready) (draft_view checked).lines → draft_view checked ≡ with_lines (draft_view checked).lines (draft_view ready)
-    → SpellsAlgorithm text checked.algorithm
-spelled text ready checked spells runs enters leaves ends kept = record {
+    → starts_in first ≡ said_starts (draft_view ready) → SpellsAlgorithm text (record { algorithm = checked.algorithm; first_values = first })
+spelled text ready checked first spells runs enters leaves ends kept values = record {
   program = spells.program;
   says = spells.says;
   draft = draft_view ready;
   means = spells.means;
   lawful = record { calls = spells.fit; runs = runs; enters = enters; leaves = leaves };
   is_of = record {
-    head = ap (λ d. d.head) kept;
-    declared = ap (λ d. d.declared) kept;
-    each = ap (λ d. d.each) kept;
-    lasting = ap (λ d. d.lasting) kept;
-    names = ap (λ d. d.names) kept;
-    answers = ap (λ d. d.answers) kept;
-    lines = ends;
+    algorithm = record {
+      head = ap (λ d. d.head) kept;
+      declared = ap (λ d. d.declared) kept;
+      each = ap (λ d. d.each) kept;
+      lasting = ap (λ d. d.lasting) kept;
+      names = ap (λ d. d.names) kept;
+      answers = ap (λ d. d.answers) kept;
+      lines = ends;
+    };
+    first_values = values;
   };
 }

@@ -9,7 +9,7 @@ use Rattle.algorithms.specs.declared.fault.ReadFault.{ReadFault}
 use Rattle.algorithms.specs.declared.fault.ReadFault.TheVariants.{OutOfMemory as NoMemory}
 use Rattle.algorithm_texts.specs.declared.tokens.Token.{Token}
 use Rattle.algorithm_texts.specs.Parts.{◌>>=◌}
-use Rattle.algorithm_texts.specs.Operands.{RefusesOperand}
+use Rattle.algorithm_texts.specs.Operands.{RefusesAs}
 use Rattle.algorithm_texts.specs.Fronts.{is_over}
 use Rattle.algorithm_texts.specs.TextLines.{ended_lines, and_line, is_no_feed, SayLines, SaysTokens, SaysBefore, TextSays, IsRefusalOf, RefusesLines}
 use Rattle.algorithm_texts.specs.TextDrafts.{Spoken}
@@ -20,9 +20,9 @@ use Rattle.algorithm_texts.proofs.LinesOnce.{split_once, says_free, some_bytes, 
 -- ---- faults
 
 -- a line's fault, as the text's
-pub refuses_at : {A : Type 0} (line : ℕ) (fault : ReadFault) (o : Option A) → RefusesOperand fault o → RefusesLines (fault_of line fault) o
-refuses_at line fault o (inl e) = inl (ap (fault_of line) e)
-refuses_at line fault o (inr h) = inr h
+pub refuses_at : {A : Type 0} (line : ℕ) (fault : ReadFault) (o : Option A) (kind : ReadFault) → RefusesAs fault o kind → RefusesLines (fault_of line fault) o
+refuses_at line fault o kind (inl e) = inl (ap (fault_of line) e)
+refuses_at line fault o kind (inr h) = inr h.0
 
 -- what comes after nothing is nothing
 pub refuses_after : {A B : Type 0} {fault : AlgorithmFault} {o : Option A} (f : A → Option B) → RefusesLines fault o → RefusesLines fault (o >>= f)

@@ -6,16 +6,20 @@ use Rattle.std.proofs.lemmas.Bool.{false≢true, not-true, ltb-true, ltb-false, 
 use Rattle.std.proofs.lemmas.Option.{slice_get-get_or, slice_get_past, slice_get-map}
 use Rattle.std.proofs.lemmas.List.{length-set, length-replicate}
 use Rattle.std.proofs.lemmas.List.Sums.{sum_by-set, count_by-le-length}
+use Rattle.algorithms.specs.declared.fault.AlgorithmFault.{AlgorithmFault}
+use Rattle.algorithms.specs.declared.fault.ReadFault.TheVariants.{Endless}
 use Rattle.algorithm_texts.specs.declared.flow.RunKind.{RunKind}
 use Rattle.algorithm_texts.specs.declared.flow.RunKind.TheVariants.{All, Silent}
 use Rattle.algorithm_texts.specs.declared.lines.CallRead.{CallRead}
 use Rattle.algorithm_texts.specs.Drafts.{LineForm, Accessing, Assigning, Noting, Going, Branching, Beginning, Repeating, Ending, Drafted, PlacedLine, form_with_place}
 use Rattle.algorithm_texts.specs.FinishedDrafts.{is_in, is_marked, is_within, ways}
 use Rattle.algorithm_texts.specs.Marks.{KeepsMarks, MarksReached, and_then, is_free}
-use Rattle.algorithm_texts.specs.Rounds.{IsOnRound, LocalMarked, RoundsMarked, LeadOn, leads_on, is_loose, count_marks}
-use Rattle.algorithm_texts.specs.Runs.{ways_after, ways_from, leads_to, is_access, RunComesTo, ComesOver, IsPlaceReached, ReturnsSilently, NoneReturns}
+use Rattle.algorithm_texts.specs.Rounds.{IsOnRound, LocalMarked, ReturnsMarked, RoundsMarked, LeadOn, leads_on, is_loose, count_marks}
+use Rattle.algorithm_texts.specs.Runs.{ways_after, ways_from, leads_to, is_access, RunComesTo, ComesOver, IsPlaceReached, ReturnsSilently, NotOnRound, NoneReturns}
+use Rattle.algorithm_texts.specs.TextFaults.{IsFaultAtFirst, OrMemory}
+use Rattle.algorithm_texts.specs.TextLines.{IsRefusalOf}
 use Rattle.algorithm_texts.specs.Usage.{uses, passes_where, passes_at}
-use Rattle.algorithm_texts.proofs.RunMarks.{both_true, true_or_false, or_left, or_right, either, marked_set, set_marks, fewer_left, below_next, comes_on, leads_within, none_in}
+use Rattle.algorithm_texts.proofs.RunMarks.{both_true, true_or_false, or_left, or_right, either, marked_set, set_marks, fewer_left, below_next, comes_on, comes_other, leads_within, none_in}
 
 -- ---- ways
 
@@ -394,14 +398,50 @@ round_local d call reached reaches at h =
       line,
     )
 
--- places that are left, each of which leads to one, have a round
-pub left_round : (d : Drafted) (call : CallRead) (reached left : List Bool) → MarksReached d call reached → LeadOn d call left
-    → ((at : ℕ) → is_in left at ≡ true → LocalMarked d call reached at) → (at : ℕ) → is_in left at ≡ true → NoneReturns d call → ⊥
-left_round d call reached left reaches rest local at marked none =
-    let r = round_of d call (length left) (λ m x. is_in left x ≡ true) (λ m x h. some_marked left x h)
-    (λ m x h.
-    let l = local x h in
-    let n = rest x l.within h in
-    (n.0, all_way d call x n.0 l.silent n.1, n.2))
-    (length left) at (omega arith) marked in
-    none r.1 (reaches.comes r.1 (local r.1 r.2).marked) r.3
+-- a place on a round is left, and comes back
+pub round_marked : (d : Drafted) (call : CallRead) (reached left : List Bool) → MarksReached d call reached → RoundsMarked d call left → (at : ℕ) → IsOnRound d call at
+    → ReturnsMarked d call left at
+round_marked d call reached left reaches rounds at h =
+    record { within = (round_local d call reached reaches at h).0.within; marked = rounds at h; returns = h.1 }
+
+-- places that are left and come back are those on rounds
+pub round_first : (d : Drafted) (call : CallRead) (reached left : List Bool) (fault : AlgorithmFault) → MarksReached d call reached → RoundsMarked d call left
+    → ((at : ℕ) → is_in left at ≡ true → LocalMarked d call reached at) → IsFaultAtFirst d.lines Endless (λ at. ReturnsMarked d call left at → ⊥) fault
+    → IsFaultAtFirst d.lines Endless (NotOnRound d call) fault
+round_first d call reached left fault reaches rounds local f = record {
+  at = f.at;
+  first = record {
+    fails = λ none. f.first.fails (λ r. none (reaches.comes f.at (local f.at r.marked).marked) r.returns);
+    before = λ k less come back. f.first.before k less (round_marked d call reached left reaches rounds k (come, back));
+  };
+  named = f.named;
+}
+
+pub round_refused : (d : Drafted) (call : CallRead) (fault : AlgorithmFault) → OrMemory fault (IsFaultAtFirst d.lines Endless (NotOnRound d call) fault)
+    → IsRefusalOf fault (NoneReturns d call)
+round_refused d call fault (inl e) = inl e
+round_refused d call fault (inr f) = inr (λ none. f.first.fails (none f.at))
+
+-- ---- runs that come back
+
+ahead : (d : Drafted) (call : CallRead) (at n x : ℕ) → ComesOver d call Silent (λ first. leads_to (ways_from d call Silent at) first ≡ true) n x
+    → ComesOver d call Silent (λ first. first ≡ at) (suc n) x
+ahead d call at zero x h = (at, refl, h)
+ahead d call at (suc n) x h = (h.0, ahead d call at n h.0 h.1, h.2)
+
+-- a run from places to which a place leads, which comes to it
+pub led_back : (d : Drafted) (call : CallRead) (at : ℕ) → RunComesTo d call Silent (λ first. leads_to (ways_from d call Silent at) first ≡ true) at
+    → ReturnsSilently d call at
+led_back d call at h =
+    let r = ahead d call at h.0 at h.1 in
+    (r.0, (h.0, r.1), r.2)
+
+-- a place to which a run comes back leads to the first of it
+pub back_led : (d : Drafted) (call : CallRead) (at : ℕ) → ReturnsSilently d call at
+    → (RunComesTo d call Silent (λ first. leads_to (ways_from d call Silent at) first ≡ true) at) × (at < length d.lines)
+back_led d call at h =
+    let f = first_way d call Silent h.1.0 at at (h.0, h.1.1, h.2) in
+    let starts : (x : ℕ) → x ≡ f.0 → leads_to (ways_from d call Silent at) x ≡ true = λ x e. subst (λ y. leads_to (ways_from d call Silent at) y ≡ true) (sym e) f.1 in (
+      comes_other d call Silent (λ x. x ≡ f.0) (λ x. leads_to (ways_from d call Silent at) x ≡ true) starts at (h.1.0, f.2),
+      leads_within d call Silent at f.0 f.1,
+    )

@@ -54,6 +54,11 @@ pub one_of_two : (a b : Option ℕ) (way : ℕ) → leads_to (and_then a (and_th
     → (leads_to (and_then a []) way ≡ true) ⊎ (leads_to (and_then b []) way ≡ true)
 one_of_two a b way h = either (leads_to (and_then a []) way) (leads_to (and_then b []) way) (sym (any_two (λ place. eqb place way) a b) ∙ h)
 
+pub two_of_one : (a b : Option ℕ) (way : ℕ) → (leads_to (and_then a []) way ≡ true) ⊎ (leads_to (and_then b []) way ≡ true)
+    → leads_to (and_then a (and_then b [])) way ≡ true
+two_of_one a b way (inl h) = any_two (λ place. eqb place way) a b ∙ or_left (leads_to (and_then a []) way) (leads_to (and_then b []) way) h
+two_of_one a b way (inr h) = any_two (λ place. eqb place way) a b ∙ or_right (leads_to (and_then a []) way) (leads_to (and_then b []) way) h
+
 -- ---- lines of the call
 
 -- a run that is at such a line is at one of the call

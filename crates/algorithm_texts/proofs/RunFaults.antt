@@ -138,10 +138,3 @@ step_first d call marks fault comes all f = record {
   };
   named = f.named;
 }
-
--- ---- rounds
-
-pub round_fault : {T Left None : Type 0} (Named : AlgorithmFault → Type 0) (r : Result T AlgorithmFault) → (Left → None → ⊥) → OnErr r Left → IfErr r Named
-    → IfErr r (λ fault. OrMemory fault ((None → ⊥) × Named fault))
-round_fault Named (Ok x) f left named = tt
-round_fault Named (Err e) f left named = inr (f left, named)

@@ -14,7 +14,7 @@ use Rattle.algorithm_texts.specs.declared.stack.Waiting.{Waiting}
 use Rattle.algorithm_texts.specs.Parts.{OperandPart, Value, Condition, Pair, Private, Term, Formula, term_of, formula_of, join_of, value_in, condition_in, ◌>>=◌}
 use Rattle.algorithm_texts.specs.Grammar.{Scope, strength, private_name_part, Says}
 use Rattle.algorithm_texts.specs.Stacks.{Waits, Joining, Opened, Halfway, OperandReading, brackets, is_open, stack_reduction, turn, run, read_part}
-use Rattle.algorithm_texts.specs.Operands.{waits_of, RefusesOperand, MakesValue, MakesCondition, scope_of, SayNoValue, SayNoCondition, SayOnePart}
+use Rattle.algorithm_texts.specs.Operands.{waits_of, RefusesAs, MakesValue, MakesCondition, scope_of, SayNoValue, SayNoCondition, SayOnePart}
 unfoldable use Rattle.algorithm_texts.specs.Operands.{reserved}
 use Rattle.algorithm_texts.proofs.Complete.{KnowsHeads, complete}
 use Rattle.algorithm_texts.proofs.Sound.{sound, some_same}
@@ -145,7 +145,7 @@ pub value_refused : (a : Algorithm) (names after : List (List ℕ)) (tokens : Li
     → MakesValue r (value_in part) → IfErr r (λ fault. (fault ≡ OutOfMemory) ⊎ SayNoValue (scope_of a) names tokens)
 value_refused a names after tokens part (Ok v) e h = tt
 value_refused a names after tokens part (Err fault) e (inl h) = inl h
-value_refused a names after tokens part (Err fault) e (inr h) = inr (other_than_value a names after tokens part e h)
+value_refused a names after tokens part (Err fault) e (inr h) = inr (other_than_value a names after tokens part e h.0)
 
 pub condition_made : (a : Algorithm) (names after : List (List ℕ)) (tokens : List Token) (part : OperandPart) (r : Result ConditionOf ReadFault) → read_part (scope_of a) names tokens ≡ Some (part, after)
     → MakesCondition r (condition_in part) → IfOk r (λ c. Says (scope_of a) names tokens (Condition (formula_of c)) after)
@@ -156,17 +156,17 @@ pub condition_refused : (a : Algorithm) (names after : List (List ℕ)) (tokens 
     → MakesCondition r (condition_in part) → IfErr r (λ fault. (fault ≡ OutOfMemory) ⊎ SayNoCondition (scope_of a) names tokens)
 condition_refused a names after tokens part (Ok c) e h = tt
 condition_refused a names after tokens part (Err fault) e (inl h) = inl h
-condition_refused a names after tokens part (Err fault) e (inr h) = inr (other_than_condition a names after tokens part e h)
+condition_refused a names after tokens part (Err fault) e (inr h) = inr (other_than_condition a names after tokens part e h.0)
 
-pub no_value_said : (a : Algorithm) (names : List (List ℕ)) (tokens : List Token) (fault : ReadFault) → RefusesOperand fault (read_part (scope_of a) names tokens)
+pub no_value_said : (a : Algorithm) (names : List (List ℕ)) (tokens : List Token) (fault kind : ReadFault) → RefusesAs fault (read_part (scope_of a) names tokens) kind
     → (fault ≡ OutOfMemory) ⊎ SayNoValue (scope_of a) names tokens
-no_value_said a names tokens fault (inl h) = inl h
-no_value_said a names tokens fault (inr h) = inr (no_value_read a names tokens h)
+no_value_said a names tokens fault kind (inl h) = inl h
+no_value_said a names tokens fault kind (inr h) = inr (no_value_read a names tokens h.0)
 
-pub no_condition_said : (a : Algorithm) (names : List (List ℕ)) (tokens : List Token) (fault : ReadFault) → RefusesOperand fault (read_part (scope_of a) names tokens)
+pub no_condition_said : (a : Algorithm) (names : List (List ℕ)) (tokens : List Token) (fault kind : ReadFault) → RefusesAs fault (read_part (scope_of a) names tokens) kind
     → (fault ≡ OutOfMemory) ⊎ SayNoCondition (scope_of a) names tokens
-no_condition_said a names tokens fault (inl h) = inl h
-no_condition_said a names tokens fault (inr h) = inr (no_condition_read a names tokens h)
+no_condition_said a names tokens fault kind (inl h) = inl h
+no_condition_said a names tokens fault kind (inr h) = inr (no_condition_read a names tokens h.0)
 
 -- ---- private names
 

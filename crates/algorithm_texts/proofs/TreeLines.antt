@@ -10,12 +10,12 @@ use Rattle.algorithm_texts.specs.declared.tokens.Sign.TheVariants.{Assign, OpenI
 use Rattle.algorithm_texts.specs.declared.tokens.Token.{Token}
 use Rattle.algorithm_texts.specs.declared.tokens.Token.TheVariants.{Number, Word, Sign}
 use Rattle.algorithm_texts.specs.Parts.{◌>>=◌}
-use Rattle.algorithm_texts.specs.Grammar.{is_among}
+use Rattle.algorithm_texts.specs.Grammar.{Scope, is_among}
 unfoldable use Rattle.algorithm_texts.specs.Operands.{reserved}
 use Rattle.algorithm_texts.specs.Fronts.{is_the_word, is_the_sign, letters_of, is_over, begins_no_simple}
 use Rattle.algorithm_texts.specs.Drafts.{Drafted}
-use Rattle.algorithm_texts.specs.LineDrafts.{new_name_in, new_name, name_set, is_constant, scope_in, read_goto, read_done, read_deed, read_await, read_store, read_private_assignment, read_assignment, read_simple, opening, read_test, read_then, read_if, read_for, read_else, read_end, read_label, read_statement}
-use Rattle.algorithm_texts.specs.TextDrafts.{Spoken, with_number, empty_draft, undeclared_name, read_each, read_bound, with_lasting, read_shared, read_private, read_declaration, read_call, read_line, read_lines, read_head, read_promises, read_text}
+use Rattle.algorithm_texts.specs.LineDrafts.{new_name_in, new_name, has_declaration, name_set, is_constant, scope_in, read_goto, read_done, read_deed, read_await, read_store, read_private_assignment, read_assignment, read_simple, opening, read_test, read_then, read_if, read_for, read_else, read_end, read_label, read_statement}
+use Rattle.algorithm_texts.specs.TextDrafts.{Spoken, with_number, empty_draft, undeclared_name, read_each, read_bound_and_start, with_lasting, read_shared, read_private, read_constant_value, read_constant, read_declaration, read_call, read_line, read_lines, read_head, read_promises, read_text}
 use Rattle.algorithm_texts.specs.Blocks.{Block, Empty, Line, Enclosed, Divided, lines_in, read_if_block, read_if_line, begins_block, read_alone, divides, ends, draft_after_statement, beginning, dividing, ending, draft_after_block}
 use Rattle.algorithm_texts.specs.Programs.{CallLines, Program, calls_lines, program_lines, declarations_made, call_begun, calls_made, meaning_of}
 use Rattle.algorithm_texts.proofs.BlockTrees.{some_of, if_of, if_bind, if_cond, on_all, rest_of, alone_rest, begins_calls, divides_calls, ends_calls}
@@ -196,6 +196,16 @@ two_no_call tokens w v x y now p q e = elim (one_of (is_the_word (slice_get toke
   | inr h ↦ other_word (slice_get tokens 0) v (codes "call") q h
 ]
 
+-- a line that begins with one of three words, each of which is not `call`
+three_no_call : (tokens : List Token) (w v u : List ℕ) (x y z : Option Drafted) (now : Drafted) → bytes_eq w (codes "call") ≡ false → bytes_eq v (codes "call") ≡ false → bytes_eq u (codes "call") ≡ false
+    → cond (is_the_word (slice_get tokens 0) w) x (cond (is_the_word (slice_get tokens 0) v) y (cond (is_the_word (slice_get tokens 0) u) z None)) ≡ Some now
+    → is_the_word (slice_get tokens 0) (codes "call") ≡ false
+three_no_call tokens w v u x y z now p q r e = elim (true_or_false (is_the_word (slice_get tokens 0) w)) [
+  | inl h ↦ other_word (slice_get tokens 0) w (codes "call") p h
+  | inr h ↦ two_no_call tokens v u y z now q r
+      (sym (ap (λ b. cond b x (cond (is_the_word (slice_get tokens 0) v) y (cond (is_the_word (slice_get tokens 0) u) z None))) h) ∙ e)
+]
+
 cond_parts : (b : Bool) (o : Option Drafted) (now : Drafted) → cond b o None ≡ Some now → (b ≡ true) × (o ≡ Some now)
 cond_parts true o now e = (refl, e)
 cond_parts false o now e = absurd (none-some now e)
@@ -355,36 +365,44 @@ name_in_other word = elim (true_or_false (bytes_eq word (codes "call"))) [
   | inr f ↦ if_cond IsOther (is_constant word) None (cond (is_among reserved word) None (Some word)) tt (if_cond IsOther (is_among reserved word) None (Some word) tt f)
 ]
 
-undeclared_other : (declared names : List (List ℕ)) (token : Option Token) → IfSome (undeclared_name declared names token) IsOther
-undeclared_other declared names token =
+undeclared_other : (scope : Scope) (names : List (List ℕ)) (token : Option Token) → IfSome (undeclared_name scope names token) IsOther
+undeclared_other scope names token =
     if_bind IsOther IsOther (new_name token) _ (on_all IsOther (letters_of token) new_name_in name_in_other)
-    (λ word h. if_cond IsOther (is_among declared word || is_among names word) None (Some word) tt h)
+    (λ word h. if_cond IsOther (has_declaration scope word || is_among names word) None (Some word) tt h)
 
 shared_other : (d : Drafted) (tokens : List Token) → NoCall d.declared → IfSome (read_shared d tokens) (λ now. NoCall now.declared)
 shared_other d tokens none =
-    if_bind IsOther (λ now. NoCall now.declared) (undeclared_name d.declared d.names (slice_get tokens 0)) _ (undeclared_other d.declared d.names (slice_get tokens 0))
+    if_bind IsOther (λ now. NoCall now.declared) (undeclared_name (scope_in d) d.names (slice_get tokens 0)) _ (undeclared_other (scope_in d) d.names (slice_get tokens 0))
     (λ name other. on_all (λ now. NoCall now.declared) (cond (ltb (length d.declared) 64) (read_each (drop 1 tokens)) None) _
-    (λ each. on_all (λ now. NoCall now.declared) (read_bound (scope_in d) d.names each.1) _ (λ bound. among_more d.declared name (codes "call") none other)))
+    (λ each. on_all (λ now. NoCall now.declared) (read_bound_and_start (scope_in d) each.0 d.names each.1) _ (λ v. among_more d.declared name (codes "call") none other)))
 
 private_other : (d : Drafted) (tokens : List Token) → NoCall d.declared → IfSome (read_private d tokens) (λ now. NoCall now.declared)
 private_other d tokens none =
-    on_all (λ now. NoCall now.declared) (undeclared_name d.declared d.names (slice_get tokens 0)) _
+    on_all (λ now. NoCall now.declared) (undeclared_name (scope_in d) d.names (slice_get tokens 0)) _
     (λ name. if_cond (λ now. NoCall now.declared) (ltb (length d.names) 32) (cond (is_over (drop 1 tokens)) (Some (with_lasting name d)) None) None
     (if_cond (λ now. NoCall now.declared) (is_over (drop 1 tokens)) (Some (with_lasting name d)) None none tt) tt)
+
+constant_other : (d : Drafted) (tokens : List Token) → NoCall d.declared → IfSome (read_constant d tokens) (λ now. NoCall now.declared)
+constant_other d tokens none =
+    on_all (λ now. NoCall now.declared) (undeclared_name (scope_in d) d.names (slice_get tokens 0)) _
+    (λ name. on_all (λ now. NoCall now.declared) (read_constant_value (scope_in d) d.names (drop 1 tokens)) _ (λ v. none))
 
 declaration_other : (d : Drafted) (tokens : List Token) → NoCall d.declared → IfSome (read_declaration d tokens) (λ now. NoCall now.declared)
 declaration_other d tokens none =
     if_cond (λ now. NoCall now.declared) (is_the_word (slice_get tokens 0) (codes "shared")) (read_shared d (drop 1 tokens))
-    (cond (is_the_word (slice_get tokens 0) (codes "private")) (read_private d (drop 1 tokens)) None) (shared_other d (drop 1 tokens) none)
-    (if_cond (λ now. NoCall now.declared) (is_the_word (slice_get tokens 0) (codes "private")) (read_private d (drop 1 tokens)) None (private_other d (drop 1 tokens) none) tt)
+    (cond (is_the_word (slice_get tokens 0) (codes "private")) (read_private d (drop 1 tokens))
+    (cond (is_the_word (slice_get tokens 0) (codes "constant")) (read_constant d (drop 1 tokens)) None)) (shared_other d (drop 1 tokens) none)
+    (if_cond (λ now. NoCall now.declared) (is_the_word (slice_get tokens 0) (codes "private")) (read_private d (drop 1 tokens))
+    (cond (is_the_word (slice_get tokens 0) (codes "constant")) (read_constant d (drop 1 tokens)) None) (private_other d (drop 1 tokens) none)
+    (if_cond (λ now. NoCall now.declared) (is_the_word (slice_get tokens 0) (codes "constant")) (read_constant d (drop 1 tokens)) None (constant_other d (drop 1 tokens) none) tt))
 
 declarations_read : (ds : List Spoken) (d now : Drafted) (ss : List Spoken) → d.calls ≡ [] → NoCall d.declared → declarations_made ds d ≡ Some now
     → (read_lines d (ds ++ ss) ≡ read_lines now ss) × NoCall now.declared
 declarations_read [] d now ss empty none e = let same = same_Some d now e in (ap (λ x. read_lines x ss) same, subst (λ x. NoCall x.declared) same none)
 declarations_read (s ∷ ds) d now ss empty none e =
     let x = some_of (read_declaration (with_number s.number d) s.tokens) (declarations_made ds) now e in
-    let other = two_no_call s.tokens (codes "shared") (codes "private") (read_shared (with_number s.number d) (drop 1 s.tokens)) (read_private (with_number s.number d) (drop 1 s.tokens)) x.0
-    refl refl x.1 in
+    let other = three_no_call s.tokens (codes "shared") (codes "private") (codes "constant") (read_shared (with_number s.number d) (drop 1 s.tokens))
+    (read_private (with_number s.number d) (drop 1 s.tokens)) (read_constant (with_number s.number d) (drop 1 s.tokens)) x.0 refl refl refl x.1 in
     let line : read_line (with_number s.number d) s.tokens s.answer d.number ≡ Some x.0 =
     ap (λ b. cond b (read_call (with_number s.number d) (drop 1 s.tokens) d.number)
     (cond (eqb (length d.calls) 0) (read_declaration (with_number s.number d) s.tokens) (read_statement (with_number s.number d) s.tokens s.answer))) other

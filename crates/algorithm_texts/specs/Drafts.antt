@@ -4,6 +4,7 @@ use Rattle.std.specs.Option.{option_map}
 use Rattle.algorithms.specs.declared.algorithm.Algorithm.{Algorithm}
 use Rattle.algorithms.specs.declared.algorithm.Entries.{Entries}
 use Rattle.algorithms.specs.declared.algorithm.Promises.{Promises}
+use Rattle.algorithms.specs.declared.expression.Expression.{Expression}
 use Rattle.algorithms.specs.declared.line.AccessLine.{AccessLine}
 use Rattle.algorithms.specs.declared.line.Action.{Action}
 use Rattle.algorithms.specs.declared.line.Action.TheVariants.{Load, Store, Await, Swap}
@@ -21,7 +22,7 @@ use Rattle.algorithm_texts.specs.declared.lines.Jump.{Jump}
 use Rattle.algorithm_texts.specs.declared.lines.Label.{Label}
 use Rattle.algorithm_texts.specs.declared.lines.Opened.{Opened}
 use Rattle.algorithm_texts.specs.Parts.{Term, Formula, term_of, formula_of}
-use Rattle.algorithm_texts.specs.Operands.{names_of, declared_of}
+use Rattle.algorithm_texts.specs.Operands.{names_of, declared_of, named_constants}
 
 -- ---- lines
 
@@ -113,12 +114,17 @@ leading lines at place (Some line) = slice_set lines at (record { number = line.
 
 -- ---- drafts
 
+-- the first value of a word, where it is said
+abbrev pub start_term : Option Expression → Option Term
+start_term start = option_map (λ v. term_of v) start
+
 -- what the lines of a call leave alone
 pub record DraftHead : Type 0 where
   pub name : List ℕ
   pub least : ℕ
   pub most : ℕ
   pub promises : Promises
+  pub constants : List (List ℕ × Term)
   pub bounds : List (Option Term)
   pub entries : Entries
 
@@ -128,15 +134,19 @@ head_of a = record {
   least = a.least;
   most = a.most;
   promises = a.promises;
+  constants = named_constants a;
   bounds = map (λ d. option_map (λ b. term_of b) d.bound) a.declarations.items;
   entries = a.entries;
 }
 
--- what was read so far
+-- what was read so far: also the first value of the words of each declaration, where one is said, and whether a first value or a
+-- constant is
 pub record Drafted : Type 0 where
   pub head : DraftHead
   pub declared : List (List ℕ)
   pub each : List Bool
+  pub starts : List (Option Term)
+  pub says_values : Bool
   pub lasting : ℕ
   pub number : ℕ
   pub names : List (List ℕ)
@@ -153,6 +163,8 @@ draft_view d = record {
   head = head_of d.algorithm;
   declared = declared_of d.algorithm;
   each = each_of d.algorithm;
+  starts = map start_term d.starts.items;
+  says_values = d.says_values;
   lasting = d.algorithm.lasting;
   number = d.number;
   names = names_of d.algorithm;

@@ -1,5 +1,5 @@
 -- The grammar of values and conditions: what their tokens say, as a tree that keeps each bracket.
-use Rattle.std.specs.Prelude.{◌≡◌, ℕ, ◌+◌, ◌≤◌, max, nat_lt, Bool, ◌||◌, List, [], ◌∷◌, ◌++◌, length, Option, Some, None, if◌then◌else◌, codes, bytes_eq, position}
+use Rattle.std.specs.Prelude.{◌≡◌, ℕ, ◌+◌, ◌≤◌, max, nat_lt, Bool, ◌||◌, List, [], ◌∷◌, ◌++◌, length, slice_get, Option, Some, None, if◌then◌else◌, codes, bytes_eq, position}
 use Rattle.std.specs.List.{list_any}
 use Rattle.algorithms.specs.declared.expression.Operator.{Operator}
 use Rattle.algorithms.specs.declared.expression.Operator.TheVariants.{Sum, Difference, Product, Quotient, Remainder, Maximum, Minimum}
@@ -10,7 +10,7 @@ use Rattle.algorithm_texts.specs.declared.operands.Bracket.{Bracket}
 use Rattle.algorithm_texts.specs.declared.operands.Bracket.TheVariants.{Plain, Not, Max, Min}
 use Rattle.algorithm_texts.specs.declared.operands.Joint.{Joint}
 use Rattle.algorithm_texts.specs.declared.operands.Joint.TheVariants.{Operator as ByOperator, Comparison as ByComparison, And, Or}
-use Rattle.algorithm_texts.specs.Parts.{Number, Private, Me, Procs, Limit, OperandPart, Value, join_of, enclosed_part, enclosed_two, ◌>>=◌}
+use Rattle.algorithm_texts.specs.Parts.{Term, Number, Private, Me, Procs, Limit, OperandPart, Value, join_of, enclosed_part, enclosed_two, ◌>>=◌}
 
 -- ---- trees and their tokens
 
@@ -80,10 +80,11 @@ depth (Between joint a b) = max (depth a) (depth b)
 
 -- ---- what trees mean
 
--- the names that a text knows: the words of the format, the shared words that are declared, and how many private names there
--- may be
+-- the names that a text knows: the words of the format, the constants with their values, the shared words that are declared, and
+-- how many private names there may be
 pub record Scope : Type 0 where
   pub reserved : List (List ℕ)
+  pub constants : List (List ℕ × Term)
   pub declared : List (List ℕ)
   pub most : ℕ
 
@@ -95,6 +96,26 @@ abbrev pub private_name_part : ℕ → List (List ℕ) → List ℕ → Option �
 private_name_part most names word (Some k) = Some (Value (Private k), names)
 private_name_part most names word None = if nat_lt (length names) most then Some (Value (Private (length names)), names ++ word ∷ []) else None
 
+-- a constant, which is a name with its value, has this name
+abbrev pub is_name_of : List ℕ → List ℕ × Term → Bool
+is_name_of word constant = bytes_eq constant.0 word
+
+-- a constant has this name
+abbrev pub is_constant_name : List (List ℕ × Term) → List ℕ → Bool
+is_constant_name constants word = list_any (is_name_of word) constants
+
+-- the value of the constant of this name
+abbrev pub constant_named : List (List ℕ × Term) → List ℕ → Option Term
+constant_named constants word = do
+  k ← position (is_name_of word) constants
+  c ← slice_get constants k
+  Some c.1
+
+-- what a name is as a value: the value of a constant, else a private name
+abbrev pub named_part : Scope → List (List ℕ) → List ℕ → Option Term → Option (OperandPart × List (List ℕ))
+named_part scope names word (Some value) = Some (Value value, names)
+named_part scope names word None = private_name_part scope.most names word (position (λ name. bytes_eq name word) names)
+
 -- what a word is as a value, and the private names after it
 abbrev pub word_value : Scope → List (List ℕ) → List ℕ → Option (OperandPart × List (List ℕ))
 word_value scope names word =
@@ -102,7 +123,7 @@ word_value scope names word =
     else if bytes_eq word (codes "procs") then Some (Value Procs, names)
     else if bytes_eq word (codes "limit") then Some (Value Limit, names)
     else if is_among scope.reserved word || is_among scope.declared word then None
-    else private_name_part scope.most names word (position (λ name. bytes_eq name word) names)
+    else named_part scope names word (constant_named scope.constants word)
 
 -- what a tree means, and the private names after it. None where a part is not of the kind that is needed there
 abbrev pub meaning : Scope → Tree → List (List ℕ) → Option (OperandPart × List (List ℕ))

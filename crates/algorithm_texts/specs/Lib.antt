@@ -20,3 +20,4 @@ pub mod Blocks
 pub mod Programs
 pub mod Sayings
 pub mod TextFaults
+pub mod LineFaults

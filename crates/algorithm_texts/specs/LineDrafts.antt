@@ -9,16 +9,16 @@ use Rattle.algorithm_texts.specs.declared.tokens.Sign.TheVariants.{Assign, OpenI
 use Rattle.algorithm_texts.specs.declared.tokens.Token.{Token}
 use Rattle.algorithm_texts.specs.declared.tokens.Token.TheVariants.{Number, Word, Sign}
 use Rattle.algorithm_texts.specs.Parts.{Term, Formula, OperandPart, Value, Pair, Condition, Private, Number as NumberTerm, Me, Procs, Limit, Joined, value_in, condition_in, ◌>>=◌}
-use Rattle.algorithm_texts.specs.Grammar.{Scope, is_among, private_name_part}
-use Rattle.algorithm_texts.specs.Operands.{reserved, RefusesOperand}
+use Rattle.algorithm_texts.specs.Grammar.{Scope, is_among, is_constant_name, private_name_part}
+use Rattle.algorithm_texts.specs.Operands.{reserved, RefusesAs}
 use Rattle.algorithm_texts.specs.Stacks.{read_part}
 use Rattle.algorithm_texts.specs.Fronts.{is_the_word, is_the_sign, letters_of, value_if, past_word, past_sign, is_over, deed_said, members_said, past_withdraw, value_tokens, value_rest, begins_no_simple}
 use Rattle.algorithm_texts.specs.Drafts.{SharedWord, DraftAction, Loading, Storing, Awaiting, Swapping, LineForm, Accessing, Assigning, Noting, Going, Branching, Beginning, Repeating, Ending, leading, Drafted}
 
--- what a function makes of a draft is what the definition gives, where that is something
-abbrev pub Drafts : {A : Type 0} → Drafted → Result A ReadFault → Option Drafted → Type 0
-Drafts now (Ok x) o = o ≡ Some now
-Drafts now (Err fault) o = RefusesOperand fault o
+-- what a function makes of a draft is what the definition gives, where that is something. Else its fault is of this kind
+abbrev pub Drafts : {A : Type 0} → Drafted → Result A ReadFault → Option Drafted → ReadFault → Type 0
+Drafts now (Ok x) o kind = o ≡ Some now
+Drafts now (Err fault) o kind = RefusesAs fault o kind
 
 -- ---- values
 
@@ -37,7 +37,7 @@ read_condition scope names tokens = do
 -- ---- names
 
 abbrev pub scope_in : Drafted → Scope
-scope_in d = record { reserved = reserved; declared = d.declared; most = 32 }
+scope_in d = record { reserved = reserved; constants = d.head.constants; declared = d.declared; most = 32 }
 
 -- the words that are numbers
 abbrev pub is_constant : List ℕ → Bool
@@ -57,11 +57,15 @@ is_name (Some (Number n)) = false
 is_name (Some (Word letters)) = not (is_among reserved letters)
 is_name (Some (Sign sign)) = false
 
+-- a constant or a shared word has this name
+abbrev pub has_declaration : Scope → List ℕ → Bool
+has_declaration scope word = is_among scope.declared word || is_constant_name scope.constants word
+
 -- a private name that a line sets, as a part, and the names after it
 abbrev pub name_set : Scope → List (List ℕ) → Option Token → Option (OperandPart × List (List ℕ))
 name_set scope names token = do
   word ← new_name token
-  if is_among scope.declared word then None else private_name_part scope.most names word (position (λ name. bytes_eq name word) names)
+  if has_declaration scope word then None else private_name_part scope.most names word (position (λ name. bytes_eq name word) names)
 
 abbrev pub index_in : OperandPart → ℕ
 index_in (Value (Private k)) = k

@@ -4,7 +4,7 @@ use Rattle.algorithms.specs.declared.algorithm.Algorithm.{Algorithm}
 use Rattle.algorithms.specs.declared.condition.Condition.{Condition}
 use Rattle.algorithms.specs.declared.expression.Expression.{Expression}
 use Rattle.algorithms.specs.declared.fault.ReadFault.{ReadFault}
-use Rattle.algorithms.specs.declared.fault.ReadFault.TheVariants.{OutOfMemory}
+use Rattle.algorithms.specs.declared.fault.ReadFault.TheVariants.{OutOfMemory, BadForm}
 use Rattle.algorithm_texts.specs.declared.operands.Operand.{Operand}
 use Rattle.algorithm_texts.specs.declared.stack.StackPlace.{StackPlace}
 use Rattle.algorithm_texts.specs.declared.stack.StackPlace.TheVariants.{Start, Head, After}
@@ -31,43 +31,48 @@ next_of Start = Begins
 next_of (Head head) = Heads head
 next_of (After part) = Follows (part_of part)
 
--- a fault comes where there is nothing, or memory runs out
-abbrev pub RefusesOperand : {A : Type 0} → ReadFault → Option A → Type 0
-RefusesOperand fault o = (fault ≡ OutOfMemory) ⊎ (o ≡ None)
+-- there is nothing, and the fault is of this kind, or memory runs out
+abbrev pub RefusesAs : {A : Type 0} → ReadFault → Option A → ReadFault → Type 0
+RefusesAs fault o kind = (fault ≡ OutOfMemory) ⊎ ((o ≡ None) × (fault ≡ kind))
 
--- what a function returns is what the definition gives, where that is something
+-- what a function returns is what the definition gives, where that is something. Else its fault is of a kind, which is given or
+-- that of no form
 
 abbrev pub Makes : Result Operand ReadFault → Option OperandPart → Type 0
 Makes (Ok operand) o = o ≡ Some (part_of operand)
-Makes (Err fault) o = RefusesOperand fault o
+Makes (Err fault) o = RefusesAs fault o BadForm
 
 abbrev pub MakesValue : Result Expression ReadFault → Option Term → Type 0
 MakesValue (Ok value) o = o ≡ Some (term_of value)
-MakesValue (Err fault) o = RefusesOperand fault o
+MakesValue (Err fault) o = RefusesAs fault o BadForm
 
 abbrev pub MakesCondition : Result Condition ReadFault → Option Formula → Type 0
 MakesCondition (Ok condition) o = o ≡ Some (formula_of condition)
-MakesCondition (Err fault) o = RefusesOperand fault o
+MakesCondition (Err fault) o = RefusesAs fault o BadForm
 
 abbrev pub Reduces : List Waits → Result Operand ReadFault → Option (List Waits × OperandPart) → Type 0
 Reduces ws (Ok operand) o = o ≡ Some (ws, part_of operand)
-Reduces ws (Err fault) o = RefusesOperand fault o
+Reduces ws (Err fault) o = RefusesAs fault o BadForm
 
-abbrev pub Turns : List (List ℕ) → List Waits → Result StackPlace ReadFault → Option OperandReading → Type 0
-Turns names ws (Ok place) o = o ≡ Some (reading names ws (next_of place))
-Turns names ws (Err fault) o = RefusesOperand fault o
+abbrev pub Turns : List (List ℕ) → List Waits → Result StackPlace ReadFault → Option OperandReading → ReadFault → Type 0
+Turns names ws (Ok place) o kind = o ≡ Some (reading names ws (next_of place))
+Turns names ws (Err fault) o kind = RefusesAs fault o kind
 
-abbrev pub MakesWord : List (List ℕ) → Result Expression ReadFault → Option (OperandPart × List (List ℕ)) → Type 0
-MakesWord names (Ok value) o = o ≡ Some (Value (term_of value), names)
-MakesWord names (Err fault) o = RefusesOperand fault o
+abbrev pub MakesWord : List (List ℕ) → Result Expression ReadFault → Option (OperandPart × List (List ℕ)) → ReadFault → Type 0
+MakesWord names (Ok value) o kind = o ≡ Some (Value (term_of value), names)
+MakesWord names (Err fault) o kind = RefusesAs fault o kind
 
-abbrev pub MakesName : List (List ℕ) → Result ℕ ReadFault → Option (OperandPart × List (List ℕ)) → Type 0
-MakesName names (Ok k) o = o ≡ Some (Value (Private k), names)
-MakesName names (Err fault) o = RefusesOperand fault o
+abbrev pub MakesName : List (List ℕ) → Result ℕ ReadFault → Option (OperandPart × List (List ℕ)) → ReadFault → Type 0
+MakesName names (Ok k) o kind = o ≡ Some (Value (Private k), names)
+MakesName names (Err fault) o kind = RefusesAs fault o kind
 
 abbrev pub EndsOperand : List (List ℕ) → Result Operand ReadFault → Option (OperandPart × List (List ℕ)) → Type 0
 EndsOperand names (Ok operand) o = o ≡ Some (part_of operand, names)
-EndsOperand names (Err fault) o = RefusesOperand fault o
+EndsOperand names (Err fault) o = RefusesAs fault o BadForm
+
+abbrev pub ReadsOperand : List (List ℕ) → Result Operand ReadFault → Option (OperandPart × List (List ℕ)) → ReadFault → Type 0
+ReadsOperand names (Ok operand) o kind = o ≡ Some (part_of operand, names)
+ReadsOperand names (Err fault) o kind = RefusesAs fault o kind
 
 -- ---- the names of an algorithm
 
@@ -77,13 +82,17 @@ names_of a = map (λ name. string_bytes name) a.names.items
 abbrev pub declared_of : Algorithm → List (List ℕ)
 declared_of a = map (λ d. string_bytes d.name) a.declarations.items
 
+-- the constants, with their values
+abbrev pub named_constants : Algorithm → List (List ℕ × Term)
+named_constants a = map (λ c. (string_bytes c.name, term_of c.value)) a.constants.items
+
 -- the words of the format
 unfoldable pub reserved : List (List ℕ)
 reserved = map (λ word. word.now) RESERVED
 
 -- what a text knows that has come so far
 abbrev pub scope_of : Algorithm → Scope
-scope_of a = record { reserved = reserved; declared = declared_of a; most = 32 }
+scope_of a = record { reserved = reserved; constants = named_constants a; declared = declared_of a; most = 32 }
 
 -- the tokens say no value, and no condition
 abbrev pub SayNoValue : Scope → List (List ℕ) → List Token → Type 0

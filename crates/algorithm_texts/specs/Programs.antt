@@ -1,6 +1,7 @@
 -- Texts as trees: the two lines of the head, declarations, and calls with their blocks. What they mean.
-use Rattle.std.specs.Prelude.{◌≡◌, ℕ, List, [], ◌∷◌, ◌++◌, drop, slice_get, Option, Some, None, if◌then◌else◌, codes}
-use Rattle.algorithms.specs.declared.algorithm.Algorithm.{Algorithm}
+use Rattle.std.specs.Prelude.{◌≡◌, ℕ, false, List, [], ◌∷◌, ◌++◌, drop, slice_get, Option, Some, None, if◌then◌else◌, codes}
+use Rattle.algorithms.specs.FirstWords.{from_zeros}
+use Rattle.algorithms.specs.declared.first_values.InitializedAlgorithm.{InitializedAlgorithm}
 use Rattle.algorithm_texts.specs.Parts.{◌>>=◌}
 use Rattle.algorithm_texts.specs.Fronts.{is_the_word}
 use Rattle.algorithm_texts.specs.Drafts.{Drafted}
@@ -8,7 +9,7 @@ use Rattle.algorithm_texts.specs.TextDrafts.{Spoken, with_number, empty_draft, e
 use Rattle.algorithm_texts.specs.TextLines.{TextSays}
 use Rattle.algorithm_texts.specs.Blocks.{Block, lines_in, draft_after_block}
 use Rattle.algorithm_texts.specs.FinishedDrafts.{finished_draft}
-use Rattle.algorithm_texts.specs.UnreachedLines.{IsDraftOf}
+use Rattle.algorithm_texts.specs.UnreachedLines.{IsInitializedBy}
 use Rattle.algorithm_texts.specs.Lawful.{IsLawfulDraft, CallsFit}
 
 -- the line that begins a call, and the lines after it
@@ -60,14 +61,19 @@ pub record SpellsDraft (text : List ℕ) (d : Drafted) : Type 0 where
   pub fit : CallsFit d
 
 -- the lines of a text are those of a program that keeps the rules, and the algorithm is what it means
-pub record SpellsAlgorithm (text : List ℕ) (a : Algorithm) : Type 0 where
+pub record SpellsAlgorithm (text : List ℕ) (a : InitializedAlgorithm) : Type 0 where
   pub program : Program
   pub says : TextSays text (program_lines program)
   pub draft : Drafted
   pub means : (meaning_of program >>= finished_draft) ≡ Some draft
   pub lawful : IsLawfulDraft draft
-  pub is_of : IsDraftOf draft a
+  pub is_of : IsInitializedBy draft a
 
 -- the algorithms that a text spells are all what one draft says
 abbrev pub SpellOne : Type 0
-SpellOne = (text : List ℕ) (a b : Algorithm) → SpellsAlgorithm text a → SpellsAlgorithm text b → (d : Drafted) × IsDraftOf d a × IsDraftOf d b
+SpellOne = (text : List ℕ) (a b : InitializedAlgorithm) → SpellsAlgorithm text a → SpellsAlgorithm text b
+    → (d : Drafted) × IsInitializedBy d a × IsInitializedBy d b
+
+-- where a text says no first value and names no constant, all words are 0 at the beginning
+abbrev pub BeginAtZero : Type 0
+BeginAtZero = (text : List ℕ) (a : InitializedAlgorithm) (s : SpellsAlgorithm text a) → s.draft.says_values ≡ false → a ≡ from_zeros a.algorithm

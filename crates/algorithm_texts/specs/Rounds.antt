@@ -22,6 +22,12 @@ pub record LocalMarked (d : Drafted) (call : CallRead) (marks : List Bool) (at :
   pub marked : is_in marks at ≡ true
   pub silent : passes_at is_access (uses d.lines) at ≡ false
 
+-- a place of the call that is marked, and to which a run comes back from it without an access
+pub record ReturnsMarked (d : Drafted) (call : CallRead) (marks : List Bool) (at : ℕ) : Type 0 where
+  pub within : is_within (call.«from», call.to) at ≡ true
+  pub marked : is_in marks at ≡ true
+  pub returns : ReturnsSilently d call at
+
 -- each place of the call that is marked leads to one that is
 abbrev pub LeadOn : Drafted → CallRead → List Bool → Type 0
 LeadOn d call marks =

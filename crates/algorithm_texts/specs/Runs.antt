@@ -135,9 +135,13 @@ NamesSetAt d call at = (name : ℕ) → name < length d.names → ReadsUnset d c
 abbrev pub RunsSet : Drafted → CallRead → Type 0
 RunsSet d call = (name at : ℕ) → name < length d.names → ReadsUnset d call name at → ⊥
 
+-- no run of a call comes to this place, and back to it without an access
+abbrev pub NotOnRound : Drafted → CallRead → ℕ → Type 0
+NotOnRound d call at = IsPlaceReached d call at → ReturnsSilently d call at → ⊥
+
 -- runs of a call come to no line again without an access
 abbrev pub NoneReturns : Drafted → CallRead → Type 0
-NoneReturns d call = (at : ℕ) → IsPlaceReached d call at → ReturnsSilently d call at → ⊥
+NoneReturns d call = (at : ℕ) → NotOnRound d call at
 
 -- runs of a call make an access before the end or the deed at this place, if one stands there
 abbrev pub StepFirstAt : Drafted → CallRead → ℕ → Type 0

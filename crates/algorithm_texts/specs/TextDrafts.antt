@@ -1,19 +1,21 @@
 -- Reading the lines of a text from the left: what each of them makes of a draft, or None where it is refused.
-use Rattle.std.specs.Prelude.{◌≡◌, string_bytes, ℕ, ◌+◌, ◌==◌, nat_eq, nat_lt, Bool, true, false, ◌&&◌, ◌||◌, List, [], ◌∷◌, ◌++◌, length, drop, slice_get, Option, Some, None, if◌then◌else◌, codes}
+use Rattle.std.specs.Prelude.{◌≡◌, string_bytes, ℕ, ◌+◌, ◌==◌, nat_eq, nat_lt, nat_le, Bool, true, false, not, ◌&&◌, ◌||◌, List, [], ◌∷◌, ◌++◌, length, map, take, drop, slice_get, Option, Some, None, is_some, if◌then◌else◌, codes}
+use Rattle.std.specs.List.{prefix_len, list_any}
 use Rattle.algorithms.specs.declared.algorithm.Algorithm.{Algorithm}
 use Rattle.algorithms.specs.declared.algorithm.AlgorithmCall.{AlgorithmCall}
 use Rattle.algorithms.specs.declared.algorithm.AlgorithmCall.TheVariants.{Lock, Unlock, Recover, Withdraw}
 use Rattle.algorithms.specs.declared.algorithm.Promises.{Promises}
+use Rattle.algorithms.specs.declared.condition.Comparison.TheVariants.{Equal}
 use Rattle.algorithm_texts.specs.declared.lines.CallRead.{CallRead}
 use Rattle.algorithm_texts.specs.declared.lines.Opened.{Opened}
-use Rattle.algorithm_texts.specs.declared.tokens.Sign.TheVariants.{Comma, OpenIndex, CloseIndex}
+use Rattle.algorithm_texts.specs.declared.tokens.Sign.TheVariants.{Comma, OpenIndex, CloseIndex, Comparison}
 use Rattle.algorithm_texts.specs.declared.tokens.Token.{Token}
 use Rattle.algorithm_texts.specs.declared.tokens.Token.TheVariants.{Number as NumberToken, Word, Sign}
 use Rattle.algorithm_texts.specs.Parts.{Term, Number, Private, Me, Procs, Limit, Joined, ◌>>=◌}
 use Rattle.algorithm_texts.specs.Grammar.{Scope, is_among}
-use Rattle.algorithm_texts.specs.Fronts.{is_the_word, is_the_sign, value_if, past_word, is_over, named_by, value_tokens, value_rest}
+use Rattle.algorithm_texts.specs.Fronts.{is_the_word, is_the_sign, value_if, past_word, past_sign, is_over, named_by, value_tokens, value_rest}
 use Rattle.algorithm_texts.specs.Drafts.{Drafted}
-use Rattle.algorithm_texts.specs.LineDrafts.{read_value, scope_in, new_name, with_names, read_statement}
+use Rattle.algorithm_texts.specs.LineDrafts.{read_value, scope_in, new_name, has_declaration, with_names, read_statement}
 
 -- ---- calls
 
@@ -62,10 +64,10 @@ read_call d tokens last = do
 -- ---- declarations
 
 -- a name that is not declared yet
-abbrev pub undeclared_name : List (List ℕ) → List (List ℕ) → Option Token → Option (List ℕ)
-undeclared_name declared names token = do
+abbrev pub undeclared_name : Scope → List (List ℕ) → Option Token → Option (List ℕ)
+undeclared_name scope names token = do
   word ← new_name token
-  if is_among declared word || is_among names word then None else Some word
+  if has_declaration scope word || is_among names word then None else Some word
 
 -- a value of numbers, `procs` and `limit` alone
 abbrev pub is_bound : Term → Bool
@@ -75,6 +77,36 @@ is_bound Me = false
 is_bound Procs = true
 is_bound Limit = true
 is_bound (Joined o a b) = is_bound a && is_bound b
+
+-- how many numbers and names a value is made of
+abbrev pub atoms : Term → ℕ
+atoms (Number n) = 1
+atoms (Private k) = 1
+atoms Me = 1
+atoms Procs = 1
+atoms Limit = 1
+atoms (Joined o a b) = atoms a + atoms b
+
+-- a value of numbers, `procs` and `limit` alone, of at most sixteen of them
+abbrev pub is_constant_value : Term → Bool
+is_constant_value v = is_bound v && nat_le (atoms v) 16
+
+-- `= VALUE`, and the private names after it
+abbrev pub read_constant_value : Scope → List (List ℕ) → List Token → Option (Term × List (List ℕ))
+read_constant_value scope names tokens = do
+  rest ← past_sign tokens (Comparison Equal)
+  v ← read_value scope names (value_tokens rest)
+  value_if (is_over (value_rest rest) && (is_constant_value v.0 && (length v.1 == length names))) (Some (v.0, v.1))
+
+abbrev pub with_constant : List ℕ → Term → Drafted → Drafted
+with_constant name value d = record d { says_values = true; head = record d.head { constants = d.head.constants ++ (name, value) ∷ [] } }
+
+-- `NAME = VALUE` after `constant`. The constants before it may be in the value
+abbrev pub read_constant : Drafted → List Token → Option Drafted
+read_constant d tokens = do
+  name ← undeclared_name (scope_in d) d.names (slice_get tokens 0)
+  v ← read_constant_value (scope_in d) d.names (drop 1 tokens)
+  Some (with_constant name v.0 (with_names v.1 d))
 
 -- `[procs]`, where it comes next, and the tokens after it
 abbrev pub read_each : List Token → Option (Bool × List Token)
@@ -94,6 +126,49 @@ read_limit scope names tokens = do
 abbrev pub read_bound : Scope → List (List ℕ) → List Token → Option (Option Term × List (List ℕ))
 read_bound scope names tokens = if is_over tokens then Some (None, names) else read_limit scope names tokens
 
+-- the first value of a word begins with this token, and its bound ends before it
+abbrev pub is_starts : Token → Bool
+is_starts token = is_the_word (Some token) (codes "starts")
+
+abbrev pub bound_size : List Token → ℕ
+bound_size tokens = prefix_len (λ token. not (is_starts token)) tokens
+
+-- in the first values of an array `owner` is the index of the word. It is read as `me`, which is refused there
+abbrev pub owner_token : Token → Token
+owner_token token = if is_the_word (Some token) (codes "owner") then Word (codes "me") else token
+
+abbrev pub owner_tokens : Bool → List Token → List Token
+owner_tokens each tokens = if each then map owner_token tokens else tokens
+
+abbrev pub is_me : Token → Bool
+is_me token = is_the_word (Some token) (codes "me")
+
+-- a value of numbers, `procs`, `limit` and, of an array, the index of the word
+abbrev pub is_first_value : Bool → Term → Bool
+is_first_value each (Number n) = true
+is_first_value each (Private k) = false
+is_first_value each Me = each
+is_first_value each Procs = true
+is_first_value each Limit = true
+is_first_value each (Joined o a b) = is_first_value each a && is_first_value each b
+
+-- `starts VALUE`, and the private names after it
+abbrev pub read_first_value : Scope → Bool → List (List ℕ) → List Token → Option (Option Term × List (List ℕ))
+read_first_value scope each names tokens = do
+  rest ← past_word tokens (codes "starts")
+  v ← if list_any is_me rest then None else read_value scope names (owner_tokens each (value_tokens rest))
+  value_if (is_over (value_rest rest) && (is_first_value each v.0 && (length v.1 == length names))) (Some (Some v.0, v.1))
+
+abbrev pub read_start : Scope → Bool → List (List ℕ) → List Token → Option (Option Term × List (List ℕ))
+read_start scope each names tokens = if is_over tokens then Some (None, names) else read_first_value scope each names tokens
+
+-- the bound and the first value of a word, where they are said, and the private names after them
+abbrev pub read_bound_and_start : Scope → Bool → List (List ℕ) → List Token → Option (Option Term × Option Term × List (List ℕ))
+read_bound_and_start scope each names tokens = do
+  bound ← read_bound scope names (take (bound_size tokens) tokens)
+  start ← read_start scope each bound.1 (drop (bound_size tokens) tokens)
+  Some (bound.0, start.0, start.1)
+
 abbrev pub with_declaration : List ℕ → Bool → Option Term → Drafted → Drafted
 with_declaration name each bound d = record d {
   declared = d.declared ++ name ∷ [];
@@ -101,25 +176,30 @@ with_declaration name each bound d = record d {
   head = record d.head { bounds = d.head.bounds ++ bound ∷ [] };
 }
 
+-- the words of one more declaration have this first value, or none is said
+abbrev pub with_start : Option Term → Drafted → Drafted
+with_start start d = record d { starts = d.starts ++ start ∷ []; says_values = is_some start || d.says_values }
+
 abbrev pub read_shared : Drafted → List Token → Option Drafted
 read_shared d tokens = do
-  name ← undeclared_name d.declared d.names (slice_get tokens 0)
+  name ← undeclared_name (scope_in d) d.names (slice_get tokens 0)
   each ← if nat_lt (length d.declared) 64 then read_each (drop 1 tokens) else None
-  bound ← read_bound (scope_in d) d.names each.1
-  Some (with_declaration name each.0 bound.0 (with_names bound.1 d))
+  v ← read_bound_and_start (scope_in d) each.0 d.names each.1
+  Some (with_start v.1 (with_declaration name each.0 v.0 (with_names v.2 d)))
 
 abbrev pub with_lasting : List ℕ → Drafted → Drafted
 with_lasting name d = record d { names = d.names ++ name ∷ []; lasting = length d.names + 1 }
 
 abbrev pub read_private : Drafted → List Token → Option Drafted
 read_private d tokens = do
-  name ← undeclared_name d.declared d.names (slice_get tokens 0)
+  name ← undeclared_name (scope_in d) d.names (slice_get tokens 0)
   value_if (nat_lt (length d.names) 32) (value_if (is_over (drop 1 tokens)) (Some (with_lasting name d)))
 
 abbrev pub read_declaration : Drafted → List Token → Option Drafted
 read_declaration d tokens =
     if is_the_word (slice_get tokens 0) (codes "shared") then read_shared d (drop 1 tokens)
     else if is_the_word (slice_get tokens 0) (codes "private") then read_private d (drop 1 tokens)
+    else if is_the_word (slice_get tokens 0) (codes "constant") then read_constant d (drop 1 tokens)
     else None
 
 -- a line after the first two, where the line before it has this number
@@ -180,6 +260,7 @@ pub record IsEmpty (a : Algorithm) (name : List ℕ) (least most : ℕ) : Type 0
   pub named : string_bytes a.name ≡ name
   pub least_is : a.least ≡ least
   pub most_is : a.most ≡ most
+  pub no_constants : a.constants.items ≡ []
   pub no_declarations : a.declarations.items ≡ []
   pub no_names : a.names.items ≡ []
   pub none_last : a.lasting ≡ 0
@@ -203,11 +284,14 @@ empty_draft head promises number = record {
     least = head.1;
     most = head.2;
     promises = promises;
+    constants = [];
     bounds = [];
     entries = record { lock = 0; unlock = 0; recover = None; withdraw = None };
   };
   declared = [];
   each = [];
+  starts = [];
+  says_values = false;
   lasting = 0;
   number = number;
   names = [];

@@ -1,27 +1,30 @@
 -- The fault of a text: the first rule that it breaks, and the line that breaks it. Rules are looked at in rounds, and in each round in
 -- an order: docs/use/algorithms.md, Faults of a text.
-use Rattle.std.specs.Prelude.{◌≡◌, ◌⊎◌, ℕ, ◌<◌, nat_le, Bool, true, false, not, ◌&&◌, List, [], ◌∷◌, drop, reverse, slice_get, bytes_eq, Option, Some, None, is_some}
-use Rattle.std.specs.List.{All, find}
+use Rattle.std.specs.Prelude.{◌≡◌, ◌⊎◌, ℕ, ◌<◌, ◌≤◌, nat_le, Bool, true, false, not, ◌&&◌, List, [], ◌∷◌, ◌++◌, length, drop, reverse, slice_get, bytes_eq, Option, Some, None, is_some, Ok, Err}
+use Rattle.std.specs.List.{All, find, list_all}
 use Rattle.algorithms.specs.Faults.{fault_of}
 use Rattle.algorithms.specs.declared.algorithm.AlgorithmCall.{AlgorithmCall}
 use Rattle.algorithms.specs.declared.algorithm.AlgorithmCall.TheVariants.{Lock, Unlock, Recover, Withdraw}
 use Rattle.algorithms.specs.declared.algorithm.Promises.{Promises}
 use Rattle.algorithms.specs.declared.fault.AlgorithmFault.{AlgorithmFault}
-use Rattle.algorithms.specs.declared.fault.AlgorithmFault.TheVariants.{OutOfMemory, At}
+use Rattle.algorithms.specs.declared.fault.AlgorithmFault.TheVariants.{OutOfMemory}
 use Rattle.algorithms.specs.declared.fault.ReadFault.{ReadFault}
-use Rattle.algorithms.specs.declared.fault.ReadFault.TheVariants.{NoHeader, NameTaken, UnknownName, NotAssignable, BadLabel, Unset, Endless, NoStep, FallsOff, BadDeed, BadCall, NeverReached}
+use Rattle.algorithms.specs.declared.fault.ReadFault.TheVariants.{NoHeader, NoNewline, TooBig, NameTaken, UnknownName, NotAssignable, BadBlock, BadLabel, Unset, Endless, NoStep, FallsOff, BadDeed, BadCall, NeverReached}
 use Rattle.algorithms.specs.declared.line.AlgorithmDeed.TheVariants.{Enter, Leave}
 use Rattle.algorithm_texts.specs.declared.lines.CallRead.{CallRead}
 use Rattle.algorithm_texts.specs.declared.lines.Jump.{Jump}
 use Rattle.algorithm_texts.specs.declared.lines.Label.{Label}
+use Rattle.algorithm_texts.specs.declared.tokens.Token.{Token}
 use Rattle.algorithm_texts.specs.Drafts.{LineForm, Accessing, PlacedLine, Drafted}
 use Rattle.algorithm_texts.specs.FinishedDrafts.{is_label_in, is_within, target_of, call_in, finished_draft}
 use Rattle.algorithm_texts.specs.Lawful.{LabelsDiffer, ReadsKnown, SetsFree, LineFitsIn, AllLinesFit, CallsFit, NotesDeed}
+use Rattle.algorithm_texts.specs.LineFaults.{promises_fault, head_fault, line_fault}
 use Rattle.algorithm_texts.specs.TextDrafts.{Spoken, read_head, read_promises, read_line, read_text, empty_draft, end_call, with_number}
-use Rattle.algorithm_texts.specs.TextLines.{SaysUpTo, TextSays, IsFirstFaultyLine}
+use Rattle.algorithm_texts.specs.TextLines.{SaysBefore, SaysUpTo, TextSays, IsFirstFaultyLine, and_line, is_no_feed}
+use Rattle.algorithm_texts.specs.Tokens.{LineSays}
 use Rattle.algorithm_texts.specs.UnreachedLines.{EndUnreached}
 use Rattle.algorithm_texts.specs.Usage.{fits, may_withdraw, uses, passes_at}
-use Rattle.algorithm_texts.specs.Runs.{LineReachedAt, EachIsReached, RunsStay, NamesSetAt, RunsSet, NoneReturns, StepFirstAt, KindRuns, AllRuns}
+use Rattle.algorithm_texts.specs.Runs.{LineReachedAt, EachIsReached, RunsStay, NamesSetAt, RunsSet, NotOnRound, NoneReturns, StepFirstAt, KindRuns, AllRuns}
 
 -- this is so, or memory ran out
 abbrev pub OrMemory : AlgorithmFault → Type 0 → Type 0
@@ -59,29 +62,66 @@ abbrev pub IsOfFirst : (AlgorithmCall → Type 0) → (AlgorithmCall → Type 0)
 IsOfFirst Holds IsFaultOf [] = ⊥
 IsOfFirst Holds IsFaultOf (kind ∷ kinds) = IsFaultOf kind ⊎ (Holds kind × IsOfFirst Holds IsFaultOf kinds)
 
--- ---- round two: forms, declared names and blocks. Which of them a line breaks is not said
+-- ---- round one: lines, their characters and their tokens
 
--- nothing is made here, and the fault is at this line
-abbrev pub StopsOnLine : {A : Type 0} → ℕ → Option A → AlgorithmFault → Type 0
-StopsOnLine line made fault = (made ≡ None) × (number : ℕ) × (fault ≡ At line number)
+-- a line has a number, or a length, above the most
+abbrev pub IsPastLimit : ℕ → List ℕ → Type 0
+IsPastLimit number line = (4096 < number) ⊎ (1000 < length line)
+
+-- a line is past a limit, or else a byte of it, a token or its answer is at fault
+abbrev pub IsFaultOfTokens : ℕ → List ℕ → AlgorithmFault → Type 0
+IsFaultOfTokens number line fault =
+    (IsPastLimit number line × (fault ≡ fault_of number TooBig))
+    ⊎ ((number ≤ 4096) × (length line ≤ 1000) × (kind : ReadFault) × LineSays line (Err kind) × (fault ≡ fault_of number kind))
+
+-- a line says tokens, and with it there are too many lines that do
+abbrev pub IsFaultOfCount : ℕ → List ℕ → List Spoken → AlgorithmFault → Type 0
+IsFaultOfCount number line said fault =
+    (number ≤ 4096) × (length line ≤ 1000) × (tokens : List Token) × (answer : List ℕ) × LineSays line (Ok (tokens, answer))
+    × (1024 < length (said ++ and_line number tokens answer [])) × (fault ≡ fault_of number TooBig)
+
+-- what comes after lines that say tokens: bytes without a line feed, or a line that is at fault
+abbrev pub IsFaultOfNext : ℕ → List ℕ → List Spoken → AlgorithmFault → Type 0
+IsFaultOfNext number rest said fault =
+    ((0 < length rest) × (list_all is_no_feed rest ≡ true) × (fault ≡ fault_of number NoNewline))
+    ⊎ ((line after : List ℕ) × (rest ≡ line ++ (10 ∷ after)) × (list_all is_no_feed line ≡ true)
+    × (IsFaultOfTokens number line fault ⊎ IsFaultOfCount number line said fault))
+
+-- the fault of the first line that says no tokens within the limits
+pub record IsFaultOfLines (text : List ℕ) (fault : AlgorithmFault) : Type 0 where
+  pub number : ℕ
+  pub rest : List ℕ
+  pub said : List Spoken
+  pub before : SaysBefore text rest number said
+  pub next : IsFaultOfNext number rest said fault
+
+-- such a fault is at the first line with which the lines of a text no longer say tokens
+abbrev pub NamesFirstLine : Type 0
+NamesFirstLine = (text : List ℕ) (fault : AlgorithmFault) → IsFaultOfLines text fault → IsFirstFaultyLine fault (SaysUpTo text)
+
+-- ---- round two: forms, declared names and blocks. Which of them a line breaks: specs/LineFaults.antt
+
+-- nothing is made here, and the fault is of this kind, at this line
+abbrev pub StopsOnLine : {A : Type 0} → ℕ → Option A → ReadFault → AlgorithmFault → Type 0
+StopsOnLine line made kind fault = (made ≡ None) × (fault ≡ fault_of line kind)
 
 -- the second line names no promises, or is not there
 abbrev pub IsFaultOfSecond : ℕ → Option Spoken → AlgorithmFault → Type 0
 IsFaultOfSecond first None fault = fault ≡ fault_of first NoHeader
-IsFaultOfSecond first (Some second) fault = StopsOnLine second.number (read_promises second.tokens) fault
+IsFaultOfSecond first (Some second) fault = StopsOnLine second.number (read_promises second.tokens) (promises_fault second.tokens) fault
 
 -- the first line is no header, or is not there, or else the second line is at fault
 abbrev pub IsFaultOfHead : Option Spoken → Option Spoken → AlgorithmFault → Type 0
 IsFaultOfHead None second fault = fault ≡ fault_of 1 NoHeader
 IsFaultOfHead (Some first) second fault =
-    StopsOnLine first.number (read_head first.tokens) fault
+    StopsOnLine first.number (read_head first.tokens) (head_fault first.tokens) fault
     ⊎ ((head : List ℕ × ℕ × ℕ) × (read_head first.tokens ≡ Some head) × IsFaultOfSecond first.number second fault)
 
 -- the first line, from a draft on, with which no draft is made, or the last one, where a block is open at the end
 abbrev pub IsFaultOfForms : Drafted → List Spoken → AlgorithmFault → Type 0
-IsFaultOfForms d [] fault = StopsOnLine d.number (end_call d.number d) fault
+IsFaultOfForms d [] fault = StopsOnLine d.number (end_call d.number d) BadBlock fault
 IsFaultOfForms d (s ∷ ss) fault =
-    StopsOnLine s.number (read_line (with_number s.number d) s.tokens s.answer d.number) fault
+    StopsOnLine s.number (read_line (with_number s.number d) s.tokens s.answer d.number) (line_fault (with_number s.number d) s.tokens d.number) fault
     ⊎ ((now : Drafted) × (read_line (with_number s.number d) s.tokens s.answer d.number ≡ Some now) × IsFaultOfForms now ss fault)
 
 -- the draft with which the lines after the first two begin
@@ -214,18 +254,14 @@ IsFaultOfAllCalls d fault =
 abbrev pub IsFaultOfEnd : Drafted → CallRead → AlgorithmFault → Type 0
 IsFaultOfEnd d call fault = (RunsStay d call → ⊥) × (fault ≡ fault_of call.last FallsOff)
 
--- lines go round without an access. Which of them is named is not said
-abbrev pub IsFaultOfRounds : Drafted → CallRead → AlgorithmFault → Type 0
-IsFaultOfRounds d call fault = (NoneReturns d call → ⊥) × ((line : ℕ) × (fault ≡ fault_of line Endless))
-
--- the first rule that the runs of a call break: a line that is never reached, a run past the end, a name that is not set, lines that
--- go round, an end or a deed before the first access
+-- the first rule that the runs of a call break: a line that is never reached, a run past the end, a name that is not set, a line
+-- on a round, an end or a deed before the first access
 abbrev pub IsFaultOfRuns : Drafted → CallRead → AlgorithmFault → Type 0
 IsFaultOfRuns d call fault =
     IsFaultAtFirst d.lines NeverReached (LineReachedAt d call) fault
     ⊎ (EachIsReached d call × (IsFaultOfEnd d call fault
     ⊎ (RunsStay d call × (IsFaultAtFirst d.lines Unset (NamesSetAt d call) fault
-    ⊎ (RunsSet d call × (IsFaultOfRounds d call fault
+    ⊎ (RunsSet d call × (IsFaultAtFirst d.lines Endless (NotOnRound d call) fault
     ⊎ (NoneReturns d call × IsFaultAtFirst d.lines NoStep (StepFirstAt d call) fault)))))))
 
 abbrev pub IsFaultOfKindRuns : Drafted → AlgorithmFault → AlgorithmCall → Type 0
@@ -276,8 +312,8 @@ MakesDraft text d = (spoken : List Spoken) × TextSays text spoken × (read_text
 abbrev pub IsFaultOfLater : List ℕ → AlgorithmFault → Type 0
 IsFaultOfLater text fault = (spoken : List Spoken) × TextSays text spoken × IsFaultOfReading spoken fault
 
--- the fault of a text: its first line that says no tokens, or with which no draft is made, or that of the draft that its lines make
+-- the fault of a text: that of its first line that says no tokens, or with which no draft is made, or of the draft that its lines make
 abbrev pub IsFaultOfText : List ℕ → AlgorithmFault → Type 0
 IsFaultOfText text fault =
-    IsFirstFaultyLine fault (SaysUpTo text)
+    IsFaultOfLines text fault
     ⊎ (IsFaultOfLater text fault ⊎ ((d : Drafted) × MakesDraft text d × IsFaultOfDraft d fault))

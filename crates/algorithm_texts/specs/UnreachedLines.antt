@@ -1,10 +1,13 @@
 -- Lines to which no run comes end their calls. The algorithm of a draft.
-use Rattle.std.specs.Prelude.{◌≡◌, ℕ, zero, suc, ◌+◌, Bool, true, not, ◌&&◌, List, [], ◌∷◌, Option, Some, None, if◌then◌else◌}
+use Rattle.std.specs.Prelude.{◌≡◌, ℕ, zero, suc, ◌+◌, Bool, true, not, ◌&&◌, List, [], ◌∷◌, map, Option, Some, None, if◌then◌else◌}
 use Rattle.std.specs.List.{list_all}
 use Rattle.algorithms.specs.declared.algorithm.Algorithm.{Algorithm}
 use Rattle.algorithms.specs.declared.algorithm.Entries.{Entries}
+use Rattle.algorithms.specs.declared.first_values.FirstValues.{FirstValues}
+use Rattle.algorithms.specs.declared.first_values.InitializedAlgorithm.{InitializedAlgorithm}
 use Rattle.algorithm_texts.specs.Operands.{names_of, declared_of}
-use Rattle.algorithm_texts.specs.Drafts.{LineForm, Ending, PlacedLine, head_of, each_of, answers_of, lines_of, Drafted}
+use Rattle.algorithm_texts.specs.Parts.{Term}
+use Rattle.algorithm_texts.specs.Drafts.{LineForm, Ending, PlacedLine, head_of, each_of, answers_of, lines_of, start_term, Drafted}
 use Rattle.algorithm_texts.specs.FinishedDrafts.{is_in, is_way, ways}
 use Rattle.algorithm_texts.specs.Runs.{RunsComeTo}
 
@@ -65,3 +68,17 @@ pub record IsDraftOf (d : Drafted) (a : Algorithm) : Type 0 where
   pub names : names_of a ≡ d.names
   pub answers : answers_of a ≡ d.answers
   pub lines : EndUnreached d (lines_of a)
+
+-- the first values of the words of each declaration, where there are some
+abbrev pub starts_in : Option FirstValues → Option (List (Option Term))
+starts_in None = None
+starts_in (Some v) = Some (map start_term v.starts.items)
+
+-- there are some where the draft says one or names a constant
+abbrev pub said_starts : Drafted → Option (List (Option Term))
+said_starts d = if d.says_values then Some d.starts else None
+
+-- an algorithm and its first values are what a draft says
+pub record IsInitializedBy (d : Drafted) (a : InitializedAlgorithm) : Type 0 where
+  pub algorithm : IsDraftOf d a.algorithm
+  pub first_values : starts_in a.first_values ≡ said_starts d

@@ -2,10 +2,12 @@
 
 ghost use Rattle.std.specs.Prelude.{◌≡◌, Some, MatchResult, position, bytes_eq, true};
 ghost use Rattle.std.specs.Option.{option_copied, option_map};
+ghost use Rattle.algorithms.specs.declared.fault.ReadFault.TheVariants.{BadForm as NoForm};
 ghost use Rattle.algorithm_texts.specs.Parts.{term_of, formula_of};
-ghost use Rattle.algorithm_texts.specs.Operands.{RefusesOperand, declared_of};
+ghost use Rattle.algorithm_texts.specs.Operands.{RefusesAs, declared_of};
 ghost use Rattle.algorithm_texts.specs.Drafts.{draft_view, word_of, act_of};
 ghost use Rattle.algorithm_texts.specs.LineDrafts.{Drafts, scope_in, with_names, read_index, read_word_of, read_word, read_until, read_deed, read_access, begins_swap, read_guard_condition, read_guard, read_swap_value, read_swap_word, read_swap, read_await_swap, read_await_swap_word, read_awaited_swap, read_awaited_word, read_awaited_load, read_awaited, read_await_of, read_await, read_store, read_load, begins_word, is_no_word};
+ghost use Rattle.algorithm_texts.specs.LineFaults.{read_index_fault, word_of_fault, shared_word_fault, until_fault, guard_condition_fault, guard_fault, swap_value_fault, swap_word_fault, swap_fault, awaited_fault, await_swap_word_fault, awaited_swap_fault, awaited_load_fault, take_await_fault, await_of_fault, await_fault, store_fault, load_fault};
 
 use crate::lines::Draft;
 use crate::names::{declaration_of, is_declared, is_name};
@@ -66,7 +68,8 @@ impl Draft {
         ensures index { MatchResult result
             (λ r. read_index (scope_in (draft_view self.old)) true (draft_view self.old).names tokens.now
             ≡ Some (option_map (λ i. term_of i) r.0, r.1.now, (draft_view self.new).names))
-            (λ fault. RefusesOperand fault (read_index (scope_in (draft_view self.old)) true (draft_view self.old).names tokens.now)) }
+            (λ fault. RefusesAs fault (read_index (scope_in (draft_view self.old)) true (draft_view self.old).names tokens.now)
+            (read_index_fault (scope_in (draft_view self.old)) true (draft_view self.old).names tokens.now)) }
         ensures kept { draft_view self.new ≡ with_names (draft_view self.new).names (draft_view self.old) }
     {
         let (part, rest) = split_value(after_sign(tokens, Sign::OpenIndex)?);
@@ -85,7 +88,8 @@ impl Draft {
         ensures index { MatchResult result
             (λ r. read_index (scope_in (draft_view self.old)) each (draft_view self.old).names tokens.now
             ≡ Some (option_map (λ i. term_of i) r.0, r.1.now, (draft_view self.new).names))
-            (λ fault. RefusesOperand fault (read_index (scope_in (draft_view self.old)) each (draft_view self.old).names tokens.now)) }
+            (λ fault. RefusesAs fault (read_index (scope_in (draft_view self.old)) each (draft_view self.old).names tokens.now)
+            (read_index_fault (scope_in (draft_view self.old)) each (draft_view self.old).names tokens.now)) }
         ensures kept { draft_view self.new ≡ with_names (draft_view self.new).names (draft_view self.old) }
     {
         if each {
@@ -108,8 +112,10 @@ impl Draft {
             (λ r. read_word_of (scope_in (draft_view self.old)) (draft_view self.old).each
             (draft_view self.old).names declaration tokens.now
             ≡ Some (word_of r.0, r.1.now, (draft_view self.new).names))
-            (λ fault. RefusesOperand fault
-            (read_word_of (scope_in (draft_view self.old)) (draft_view self.old).each (draft_view self.old).names declaration tokens.now)) }
+            (λ fault. RefusesAs fault
+            (read_word_of (scope_in (draft_view self.old)) (draft_view self.old).each (draft_view self.old).names declaration tokens.now)
+            (word_of_fault (scope_in (draft_view self.old)) (draft_view self.old).each
+            (draft_view self.old).names tokens.now declaration)) }
         ensures kept { draft_view self.new ≡ with_names (draft_view self.new).names (draft_view self.old) }
     {
         let each = self.has_index(declaration);
@@ -126,8 +132,9 @@ impl Draft {
         ensures word { MatchResult result
             (λ r. read_word (scope_in (draft_view self.old)) (draft_view self.old).each (draft_view self.old).names tokens.now
             ≡ Some (word_of r.0, r.1.now, (draft_view self.new).names))
-            (λ fault. RefusesOperand fault
-            (read_word (scope_in (draft_view self.old)) (draft_view self.old).each (draft_view self.old).names tokens.now)) }
+            (λ fault. RefusesAs fault
+            (read_word (scope_in (draft_view self.old)) (draft_view self.old).each (draft_view self.old).names tokens.now)
+            (shared_word_fault (scope_in (draft_view self.old)) (draft_view self.old).each (draft_view self.old).names tokens.now)) }
         ensures kept { draft_view self.new ≡ with_names (draft_view self.new).names (draft_view self.old) }
     {
         match letters(tokens.first()) {
@@ -142,7 +149,7 @@ impl Draft {
     /// Adds an access, with what may follow it in its line: `may withdraw`, and a deed.
     fn access(&mut self, word: WordOf, action: Action, tokens: &[Token]) -> Result<(), ReadFault>
         ensures { Drafts (draft_view self.new) result
-            (read_access (draft_view self.old) (word_of word) (act_of action) tokens.now) }
+            (read_access (draft_view self.old) (word_of word) (act_of action) tokens.now) NoForm }
     {
         let may_withdraw = is_word(tokens.first(), b"may");
         self.add(LineKind::Access(AccessLine {
@@ -160,7 +167,7 @@ impl Draft {
 
     /// Reads the deed that a line notes, and adds it as a local line.
     pub fn deed(&mut self, tokens: &[Token]) -> Result<(), ReadFault>
-        ensures { Drafts (draft_view self.new) result (read_deed (draft_view self.old) tokens.now) }
+        ensures { Drafts (draft_view self.new) result (read_deed (draft_view self.old) tokens.now) NoForm }
     {
         let deed = deed_said(tokens)?;
         self.add_local(LocalLine::Note(deed))?;
@@ -176,7 +183,8 @@ impl Draft {
         ensures until { MatchResult result
             (λ r. read_until (scope_in (draft_view self.old)) (draft_view self.old).names tokens.now
             ≡ Some (formula_of r.0, r.1.now, (draft_view self.new).names))
-            (λ fault. RefusesOperand fault (read_until (scope_in (draft_view self.old)) (draft_view self.old).names tokens.now)) }
+            (λ fault. RefusesAs fault (read_until (scope_in (draft_view self.old)) (draft_view self.old).names tokens.now)
+            (until_fault (scope_in (draft_view self.old)) (draft_view self.old).names tokens.now)) }
         ensures kept { draft_view self.new ≡ with_names (draft_view self.new).names (draft_view self.old) }
     {
         let (part, rest) = split_value(after_word(tokens, b"until")?);
@@ -193,8 +201,9 @@ impl Draft {
         ensures guard { MatchResult result
             (λ r. read_guard_condition (scope_in (draft_view self.old)) (draft_view self.old).names tokens.now
             ≡ Some (option_map (λ c. formula_of c) r.0, r.1.now, (draft_view self.new).names))
-            (λ fault. RefusesOperand fault
-            (read_guard_condition (scope_in (draft_view self.old)) (draft_view self.old).names tokens.now)) }
+            (λ fault. RefusesAs fault
+            (read_guard_condition (scope_in (draft_view self.old)) (draft_view self.old).names tokens.now)
+            (guard_condition_fault (scope_in (draft_view self.old)) (draft_view self.old).names tokens.now)) }
         ensures kept { draft_view self.new ≡ with_names (draft_view self.new).names (draft_view self.old) }
     {
         let (part, rest) = split_value(tokens);
@@ -211,7 +220,8 @@ impl Draft {
         ensures guard { MatchResult result
             (λ r. read_guard (scope_in (draft_view self.old)) (draft_view self.old).names tokens.now
             ≡ Some (option_map (λ c. formula_of c) r.0, r.1.now, (draft_view self.new).names))
-            (λ fault. RefusesOperand fault (read_guard (scope_in (draft_view self.old)) (draft_view self.old).names tokens.now)) }
+            (λ fault. RefusesAs fault (read_guard (scope_in (draft_view self.old)) (draft_view self.old).names tokens.now)
+            (guard_fault (scope_in (draft_view self.old)) (draft_view self.old).names tokens.now)) }
         ensures kept { draft_view self.new ≡ with_names (draft_view self.new).names (draft_view self.old) }
     {
         if is_word(tokens.first(), b"if") {
@@ -230,8 +240,9 @@ impl Draft {
         ensures value { MatchResult result
             (λ r. read_swap_value (scope_in (draft_view self.old)) (draft_view self.old).names tokens.now
             ≡ Some (term_of r.0, option_map (λ c. formula_of c) r.1, r.2.now, (draft_view self.new).names))
-            (λ fault. RefusesOperand fault
-            (read_swap_value (scope_in (draft_view self.old)) (draft_view self.old).names tokens.now)) }
+            (λ fault. RefusesAs fault
+            (read_swap_value (scope_in (draft_view self.old)) (draft_view self.old).names tokens.now)
+            (swap_value_fault (scope_in (draft_view self.old)) (draft_view self.old).names tokens.now)) }
         ensures kept { draft_view self.new ≡ with_names (draft_view self.new).names (draft_view self.old) }
     {
         let (part, rest) = split_value(after_word(tokens, b"to")?);
@@ -248,7 +259,8 @@ impl Draft {
         word: WordOf,
         tokens: &[Token],
     ) -> Result<(), ReadFault>
-        ensures { Drafts (draft_view self.new) result (read_swap_word (draft_view self.old) name (word_of word) tokens.now) }
+        ensures { Drafts (draft_view self.new) result (read_swap_word (draft_view self.old) name (word_of word) tokens.now)
+            (swap_word_fault (draft_view self.old) tokens.now) }
     {
         let (value, guard, rest) = self.swap_value(alloc, tokens)?;
         let until = None;
@@ -266,7 +278,8 @@ impl Draft {
 
     /// `WORD to VALUE if CONDITION` after `NAME := swap`.
     pub fn swaps(&mut self, alloc: Global, name: usize, tokens: &[Token]) -> Result<(), ReadFault>
-        ensures { Drafts (draft_view self.new) result (read_swap (draft_view self.old) name tokens.now) }
+        ensures { Drafts (draft_view self.new) result (read_swap (draft_view self.old) name tokens.now)
+            (swap_fault (draft_view self.old) tokens.now) }
     {
         let (word, rest) = self.word(alloc, tokens)?;
         self.swap_word(alloc, name, word, rest)
@@ -281,7 +294,7 @@ impl Draft {
         tokens: &[Token],
     ) -> Result<(), ReadFault>
         ensures { Drafts (draft_view self.new) result (read_await_swap (draft_view self.old) (word_of word)
-            swap.0 (term_of swap.1) (option_map (λ c. formula_of c) swap.2) tokens.now) }
+            swap.0 (term_of swap.1) (option_map (λ c. formula_of c) swap.2) tokens.now) (awaited_fault (draft_view self.old) tokens.now) }
     {
         let (until, rest) = self.until(alloc, tokens)?;
         let (name, value, guard) = swap;
@@ -306,7 +319,8 @@ impl Draft {
         word: WordOf,
         tokens: &[Token],
     ) -> Result<(), ReadFault>
-        ensures { Drafts (draft_view self.new) result (read_await_swap_word (draft_view self.old) name (word_of word) tokens.now) }
+        ensures { Drafts (draft_view self.new) result (read_await_swap_word (draft_view self.old) name (word_of word) tokens.now)
+            (await_swap_word_fault (draft_view self.old) tokens.now) }
     {
         let (value, guard, rest) = self.swap_value(alloc, tokens)?;
         self.await_swap(alloc, word, (name, value, guard), rest)
@@ -319,7 +333,8 @@ impl Draft {
         name: usize,
         tokens: &[Token],
     ) -> Result<(), ReadFault>
-        ensures { Drafts (draft_view self.new) result (read_awaited_swap (draft_view self.old) name tokens.now) }
+        ensures { Drafts (draft_view self.new) result (read_awaited_swap (draft_view self.old) name tokens.now)
+            (awaited_swap_fault (draft_view self.old) tokens.now) }
     {
         let (word, rest) = self.word(alloc, tokens)?;
         self.await_swap_word(alloc, name, word, rest)
@@ -333,7 +348,8 @@ impl Draft {
         word: WordOf,
         tokens: &[Token],
     ) -> Result<(), ReadFault>
-        ensures { Drafts (draft_view self.new) result (read_awaited_word (draft_view self.old) name (word_of word) tokens.now) }
+        ensures { Drafts (draft_view self.new) result (read_awaited_word (draft_view self.old) name (word_of word) tokens.now)
+            (awaited_fault (draft_view self.old) tokens.now) }
     {
         let (until, rest) = self.until(alloc, tokens)?;
         self.access(word, Action::Await { name, until }, rest)
@@ -346,7 +362,8 @@ impl Draft {
         name: usize,
         tokens: &[Token],
     ) -> Result<(), ReadFault>
-        ensures { Drafts (draft_view self.new) result (read_awaited_load (draft_view self.old) name tokens.now) }
+        ensures { Drafts (draft_view self.new) result (read_awaited_load (draft_view self.old) name tokens.now)
+            (awaited_load_fault (draft_view self.old) tokens.now) }
     {
         let (word, rest) = self.word(alloc, tokens)?;
         self.awaited_word(alloc, name, word, rest)
@@ -354,7 +371,8 @@ impl Draft {
 
     /// What is read into a private name that an `await` sets: a shared word, alone or in a swap.
     fn take_await(&mut self, alloc: Global, name: usize, tokens: &[Token]) -> Result<(), ReadFault>
-        ensures { Drafts (draft_view self.new) result (read_awaited (draft_view self.old) name tokens.now) }
+        ensures { Drafts (draft_view self.new) result (read_awaited (draft_view self.old) name tokens.now)
+            (take_await_fault (draft_view self.old) tokens.now) }
     {
         if begins_swap(tokens) {
             self.awaited_swap(alloc, name, after(tokens, 1))
@@ -365,7 +383,8 @@ impl Draft {
 
     /// `:= WORD until CONDITION` or `:= swap .. until CONDITION` after `await NAME`.
     fn await_of(&mut self, alloc: Global, name: usize, tokens: &[Token]) -> Result<(), ReadFault>
-        ensures { Drafts (draft_view self.new) result (read_await_of (draft_view self.old) name tokens.now) }
+        ensures { Drafts (draft_view self.new) result (read_await_of (draft_view self.old) name tokens.now)
+            (await_of_fault (draft_view self.old) tokens.now) }
     {
         let rest = after_sign(tokens, Sign::Assign)?;
         self.take_await(alloc, name, rest)
@@ -373,7 +392,8 @@ impl Draft {
 
     /// `await NAME := WORD until CONDITION` or `await NAME := swap .. until CONDITION`.
     pub fn awaits(&mut self, alloc: Global, tokens: &[Token]) -> Result<(), ReadFault>
-        ensures { Drafts (draft_view self.new) result (read_await (draft_view self.old) tokens.now) }
+        ensures { Drafts (draft_view self.new) result (read_await (draft_view self.old) tokens.now)
+            (await_fault (draft_view self.old) tokens.now) }
     {
         let name = self.name(alloc, tokens.first())?;
         self.await_of(alloc, name, after(tokens, 1))
@@ -381,7 +401,8 @@ impl Draft {
 
     /// `WORD := VALUE`.
     pub fn stores(&mut self, alloc: Global, tokens: &[Token]) -> Result<(), ReadFault>
-        ensures { Drafts (draft_view self.new) result (read_store (draft_view self.old) tokens.now) }
+        ensures { Drafts (draft_view self.new) result (read_store (draft_view self.old) tokens.now)
+            (store_fault (draft_view self.old) tokens.now) }
     {
         let (word, rest) = self.word(alloc, tokens)?;
         let (stored, rest) = split_value(after_sign(rest, Sign::Assign)?);
@@ -391,7 +412,8 @@ impl Draft {
 
     /// A shared word that is assigned to a private name.
     pub fn loads(&mut self, alloc: Global, name: usize, tokens: &[Token]) -> Result<(), ReadFault>
-        ensures { Drafts (draft_view self.new) result (read_load (draft_view self.old) name tokens.now) }
+        ensures { Drafts (draft_view self.new) result (read_load (draft_view self.old) name tokens.now)
+            (load_fault (draft_view self.old) tokens.now) }
     {
         let (word, rest) = self.word(alloc, tokens)?;
         if is_no_word(rest.first()) {

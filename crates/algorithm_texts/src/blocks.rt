@@ -1,11 +1,12 @@
 //! Blocks and labels, and all lines of a call.
 
 ghost use Rattle.std.specs.Prelude.{◌≡◌, ◌∷◌, [], List, length, reverse, slice_get, Some, MatchOption, MatchResult, OnOk, IfErr, IsAscii};
-ghost use Rattle.algorithms.specs.declared.fault.ReadFault.TheVariants.{OutOfMemory as NoMemory};
+ghost use Rattle.algorithms.specs.declared.fault.ReadFault.TheVariants.{OutOfMemory as NoMemory, BadBlock as NoBlock, TooBig as ManyOpen};
 ghost use Rattle.algorithm_texts.specs.declared.lines.Opened.{Opened as OpenedOf};
-ghost use Rattle.algorithm_texts.specs.Operands.{RefusesOperand};
+ghost use Rattle.algorithm_texts.specs.Operands.{RefusesAs};
 ghost use Rattle.algorithm_texts.specs.Drafts.{draft_view};
 ghost use Rattle.algorithm_texts.specs.LineDrafts.{Drafts, opening, closing, ended_at, read_test, read_then, read_if, is_loop_of, is_loop, is_looping, loops, loop_opened, read_for, else_in, read_else, going_round, end_in, read_end, read_label, read_statement, block_in};
+ghost use Rattle.algorithm_texts.specs.LineFaults.{test_fault, simple_fault, branch_fault, loop_fault, for_fault, else_in_fault, else_fault, end_fault, label_fault, statement_fault};
 
 use crate::lines::{Block, Draft, Label, Opened};
 use crate::names::new_name;
@@ -78,7 +79,7 @@ fn end_block(blocks: &mut Vec<(usize, usize)>, block: usize, place: usize)
 impl Draft {
     /// Opens a block whose head is the line at `place`. `TooBig`: too many blocks are open.
     fn open(&mut self, place: usize, kind: Block) -> Result<(), ReadFault>
-        ensures { Drafts (draft_view self.new) result (opening place kind (draft_view self.old)) }
+        ensures { Drafts (draft_view self.new) result (opening place kind (draft_view self.old)) ManyOpen }
     {
         if self.opened.len() >= DEEPEST_BLOCK {
             return Err(ReadFault::TooBig);
@@ -124,7 +125,7 @@ impl Draft {
         ensures { MatchResult result
             (λ r. (r.0 ≡ length (draft_view self.old).lines)
             × (read_test (draft_view self.old) tokens.now ≡ Some (draft_view self.new, r.1.now)))
-            (λ fault. RefusesOperand fault (read_test (draft_view self.old) tokens.now)) }
+            (λ fault. RefusesAs fault (read_test (draft_view self.old) tokens.now) (test_fault (draft_view self.old) tokens.now)) }
     {
         let (test, rest) = split_value(tokens);
         let condition: Condition = self.condition(alloc, test)?;
@@ -145,7 +146,8 @@ impl Draft {
         answer: &[u8],
     ) -> Result<(), ReadFault>
         requires { IsAscii answer.now }
-        ensures { Drafts (draft_view self.new) result (read_then place (draft_view self.old) tokens.now answer.now) }
+        ensures { Drafts (draft_view self.new) result (read_then place (draft_view self.old) tokens.now answer.now)
+            (simple_fault (draft_view self.old) tokens.now) }
     {
         self.take_simple(alloc, tokens, answer)?;
         self.land(place);
@@ -155,7 +157,8 @@ impl Draft {
     /// `if CONDITION then`, with a statement in the same line or a block after it.
     fn branch(&mut self, alloc: Global, tokens: &[Token], answer: &[u8]) -> Result<(), ReadFault>
         requires { IsAscii answer.now }
-        ensures { Drafts (draft_view self.new) result (read_if (draft_view self.old) tokens.now answer.now) }
+        ensures { Drafts (draft_view self.new) result (read_if (draft_view self.old) tokens.now answer.now)
+            (branch_fault (draft_view self.old) tokens.now) }
     {
         let (place, rest) = self.test(alloc, tokens)?;
         if rest.is_empty() {
@@ -169,7 +172,8 @@ impl Draft {
 
     /// Begins a loop. `NameTaken` where one round it sets its name.
     fn begin_loop(&mut self, name: usize, members: Members) -> Result<(), ReadFault>
-        ensures { Drafts (draft_view self.new) result (loop_opened name members (draft_view self.old)) }
+        ensures { Drafts (draft_view self.new) result (loop_opened name members (draft_view self.old))
+            (loop_fault name (draft_view self.old).opened) }
     {
         if is_looping(self.opened.as_slice(), name) {
             return Err(ReadFault::NameTaken);
@@ -187,7 +191,8 @@ impl Draft {
 
     /// `for NAME in MEMBERS`.
     fn loop_head(&mut self, alloc: Global, tokens: &[Token]) -> Result<(), ReadFault>
-        ensures { Drafts (draft_view self.new) result (read_for (draft_view self.old) tokens.now) }
+        ensures { Drafts (draft_view self.new) result (read_for (draft_view self.old) tokens.now)
+            (for_fault (draft_view self.old) tokens.now) }
     {
         let name = self.name(alloc, tokens.first())?;
         if name < self.algorithm.lasting {
@@ -199,7 +204,8 @@ impl Draft {
 
     /// Ends the first part of a condition, and begins the second.
     fn begin_other(&mut self) -> Result<(), ReadFault>
-        ensures { Drafts (draft_view self.new) result (else_in (draft_view self.old).opened (draft_view self.old)) }
+        ensures { Drafts (draft_view self.new) result (else_in (draft_view self.old).opened (draft_view self.old))
+            (else_in_fault (draft_view self.old).opened) }
     {
         let place = self.add_local(LocalLine::Goto(0))?;
         match self.close() {
@@ -217,7 +223,8 @@ impl Draft {
 
     /// `else`.
     fn take_else(&mut self, tokens: &[Token]) -> Result<(), ReadFault>
-        ensures { Drafts (draft_view self.new) result (read_else (draft_view self.old) tokens.now) }
+        ensures { Drafts (draft_view self.new) result (read_else (draft_view self.old) tokens.now)
+            (else_fault (draft_view self.old) tokens.now) }
     {
         check_end(tokens)?;
         self.begin_other()
@@ -244,7 +251,7 @@ impl Draft {
 
     /// Ends the innermost block, and lets its first line lead past it.
     fn end_innermost(&mut self) -> Result<(), ReadFault>
-        ensures { Drafts (draft_view self.new) result (end_in (draft_view self.old).opened (draft_view self.old)) }
+        ensures { Drafts (draft_view self.new) result (end_in (draft_view self.old).opened (draft_view self.old)) NoBlock }
     {
         let opened = self.innermost_block().ok_or(ReadFault::BadBlock)?;
         self.go_round(opened)?;
@@ -255,7 +262,7 @@ impl Draft {
 
     /// `end`.
     fn end(&mut self, tokens: &[Token]) -> Result<(), ReadFault>
-        ensures { Drafts (draft_view self.new) result (read_end (draft_view self.old) tokens.now) }
+        ensures { Drafts (draft_view self.new) result (read_end (draft_view self.old) tokens.now) (end_fault tokens.now) }
     {
         check_end(tokens)?;
         self.end_innermost()
@@ -273,7 +280,7 @@ impl Draft {
 
     /// `NAME:`.
     fn label(&mut self, tokens: &[Token]) -> Result<(), ReadFault>
-        ensures { Drafts (draft_view self.new) result (read_label (draft_view self.old) tokens.now) }
+        ensures { Drafts (draft_view self.new) result (read_label (draft_view self.old) tokens.now) (label_fault (slice_get tokens.now 0)) }
     {
         let name = new_name(tokens.first())?;
         check_end(after(tokens, 2))?;
@@ -293,7 +300,8 @@ impl Draft {
     pub fn statement(&mut self, alloc: Global, line: &Tokens) -> Result<(), ReadFault>
         requires { IsAscii line.now.answer.items }
         ensures { Drafts (draft_view self.new) result
-            (read_statement (draft_view self.old) line.now.all.items line.now.answer.items) }
+            (read_statement (draft_view self.old) line.now.all.items line.now.answer.items)
+            (statement_fault (draft_view self.old) line.now.all.items) }
     {
         let tokens = line.all.as_slice();
         let first = tokens.first();

@@ -1,11 +1,14 @@
 //! The draft of a text: its lines, and what they say.
 
-ghost use Rattle.std.specs.Prelude.{◌≡◌, ◌⊎◌, ◌==◌, ◌≤◌, ℕ, ◌++◌, ◌∷◌, [], List, position, map, length, drop, slice_get, Some, None, Ok, IfOk, IfErr, OnOk, IfSome, IfNone, true};
+ghost use Rattle.std.specs.Prelude.{◌≡◌, ◌⊎◌, ◌==◌, ◌<◌, ◌≤◌, ℕ, ◌++◌, ◌∷◌, [], List, position, map, length, drop, slice_get, Some, None, Ok, IfOk, IfErr, OnOk, IfSome, IfNone, true};
 ghost use Rattle.std.specs.List.{list_all};
+ghost use Rattle.algorithms.specs.Faults.{fault_of};
+ghost use Rattle.algorithms.specs.declared.fault.ReadFault.TheVariants.{TooBig};
 ghost use Rattle.algorithm_texts.specs.Drafts.{Drafted, draft_view};
-ghost use Rattle.algorithm_texts.specs.TextLines.{IsAt, IsFirstFaultyLine, IsRefusalOf, RefusesLines, SaysTokens, SaysUpTo, TextSays, and_line, is_no_feed, second_said, spoken_of};
+ghost use Rattle.algorithm_texts.specs.TextLines.{IsRefusalOf, RefusesLines, SaysTokens, TextSays, and_line, is_no_feed, second_said, spoken_of};
 ghost use Rattle.algorithm_texts.specs.TextDrafts.{IsEmpty, Spoken, empty_draft, read_head, read_line, read_lines, read_promises, read_text, with_number};
-ghost use Rattle.algorithm_texts.specs.TextFaults.{BeginsDraft, IsFaultOfForms, IsFaultOfHead, IsFaultOfLater, IsFaultOfSecond, OrMemory, StopsOnLine};
+ghost use Rattle.algorithm_texts.specs.LineFaults.{head_fault, line_fault, promises_fault};
+ghost use Rattle.algorithm_texts.specs.TextFaults.{BeginsDraft, IsFaultOfForms, IsFaultOfHead, IsFaultOfLater, IsFaultOfLines, IsFaultOfSecond, IsFaultOfTokens, OrMemory, StopsOnLine};
 ghost use Rattle.algorithm_texts.specs.Tokens.{LineSays};
 
 use crate::calls::{head, promises};
@@ -31,7 +34,7 @@ fn read_tokens(alloc: Global, number: u64, line: &[u8]) -> Result<Filled, Algori
     ensures says { IfOk result (λ filled. LineSays line.now (Ok (filled.tokens.all.items, filled.tokens.answer.items))) }
     ensures few { OnOk result (number ≤ 4096) }
     ensures short { OnOk result (length line.now ≤ 1000) }
-    ensures at { IfErr result (λ fault. IsAt fault number) }
+    ensures first { IfErr result (λ fault. OrMemory fault (IsFaultOfTokens number line.now fault)) }
     ensures err { IfErr result (λ fault. IsRefusalOf fault (SaysTokens number line.now)) }
 {
     if number > MOST_LINES as u64 || line.len() > LONGEST_LINE {
@@ -50,7 +53,8 @@ fn add_filled(lines: &mut Vec<Filled>, line: Filled) -> Result<(), AlgorithmFaul
     ensures few { OnOk result (length lines.old.items ≤ 1024 → length lines.new.items ≤ 1024) }
     ensures err { IfErr result (λ fault. IsRefusalOf fault (length (map spoken_of lines.old.items
         ++ and_line line.number line.tokens.all.items line.tokens.answer.items []) ≤ 1024)) }
-    ensures at { IfErr result (λ fault. IsAt fault line.number) }
+    ensures first { IfErr result (λ fault. OrMemory fault ((1024 < length (map spoken_of lines.old.items
+        ++ and_line line.number line.tokens.all.items line.tokens.answer.items [])) × (fault ≡ fault_of line.number TooBig))) }
 {
     if line.tokens.all.is_empty() {
         return Ok(());
@@ -82,7 +86,7 @@ fn line_end(bytes: &[u8]) -> Option<usize>
 fn lines_of(alloc: Global, text: &[u8]) -> Result<Vec<Filled>, AlgorithmFault>
     ensures ok { IfOk result (λ lines. TextSays text.now (map spoken_of lines.items)) }
     ensures err { IfErr result (λ fault. IsRefusalOf fault ((spoken : List Spoken) × TextSays text.now spoken)) }
-    ensures first { IfErr result (λ fault. IsFirstFaultyLine fault (SaysUpTo text.now)) }
+    ensures first { IfErr result (λ fault. OrMemory fault (IsFaultOfLines text.now fault)) }
 {
     let mut lines = Vec::new(alloc);
     let mut number: u64 = 1;
@@ -116,7 +120,8 @@ fn second_line(lines: &[Filled], first: u64) -> Result<(Promises, u64), Algorith
 fn promises_of(line: &Filled) -> Result<(Promises, u64), AlgorithmFault>
     ensures ok { IfOk result (λ second. second_said (Some line.now) ≡ Some (second.0, second.1)) }
     ensures err { IfErr result (λ fault. second_said (Some line.now) ≡ None) }
-    ensures at { IfErr result (λ fault. OrMemory fault (StopsOnLine line.now.number (read_promises line.now.tokens.all.items) fault)) }
+    ensures at { IfErr result (λ fault. OrMemory fault (StopsOnLine line.now.number (read_promises line.now.tokens.all.items)
+        (promises_fault line.now.tokens.all.items) fault)) }
 {
     match promises(&line.tokens) {
         Ok(promises) => Ok((promises, line.number)),
@@ -147,7 +152,8 @@ fn head_of(alloc: Global, line: &Filled) -> Result<Algorithm, AlgorithmFault>
     ensures ok { IfOk result (λ a. (h : List ℕ × ℕ × ℕ)
         × (read_head line.now.tokens.all.items ≡ Some h) × IsEmpty a h.0 h.1 h.2) }
     ensures err { IfErr result (λ fault. RefusesLines fault (read_head line.now.tokens.all.items)) }
-    ensures at { IfErr result (λ fault. OrMemory fault (StopsOnLine line.now.number (read_head line.now.tokens.all.items) fault)) }
+    ensures at { IfErr result (λ fault. OrMemory fault (StopsOnLine line.now.number (read_head line.now.tokens.all.items)
+        (head_fault line.now.tokens.all.items) fault)) }
 {
     match head(alloc, &line.tokens) {
         Ok(algorithm) => Ok(algorithm),
@@ -169,6 +175,8 @@ fn new_draft(alloc: Global, algorithm: Algorithm, promises: Promises, number: u6
         jumps: Vec::new(alloc),
         calls: Vec::new(alloc),
         number,
+        starts: Vec::new(alloc),
+        says_values: false,
     }
 }
 
@@ -193,7 +201,8 @@ fn read_line(alloc: Global, draft: &mut Draft, line: &Filled) -> Result<(), Algo
         line.now.tokens.answer.items (draft_view draft.old).number ≡ Some (draft_view draft.new)) }
     ensures first { IfErr result (λ fault. OrMemory fault (StopsOnLine line.now.number
         (read_line (with_number line.now.number (draft_view draft.old)) line.now.tokens.all.items
-        line.now.tokens.answer.items (draft_view draft.old).number) fault)) }
+        line.now.tokens.answer.items (draft_view draft.old).number)
+        (line_fault (with_number line.now.number (draft_view draft.old)) line.now.tokens.all.items (draft_view draft.old).number) fault)) }
 {
     let last = draft.number;
     draft.number = line.number;
@@ -236,7 +245,7 @@ pub fn forms(alloc: Global, text: &[u8]) -> Result<Draft, AlgorithmFault>
     ensures err { IfErr result (λ fault. IsRefusalOf fault ((spoken : List Spoken) × (draft : Drafted) × TextSays text.now spoken
         × (read_text spoken ≡ Some draft))) }
     ensures first { IfErr result (λ fault. OrMemory fault
-        (IsFirstFaultyLine fault (SaysUpTo text.now) ⊎ IsFaultOfLater text.now fault)) }
+        (IsFaultOfLines text.now fault ⊎ IsFaultOfLater text.now fault)) }
 {
     let lines = lines_of(alloc, text)?;
     let mut draft = draft(alloc, lines.as_slice())?;

@@ -265,7 +265,7 @@ impl Draft {
     }
 
     /// Marks all places to which runs come from those that are marked.
-    fn spread(&self, call: CallRead, runs: RunKind, marks: &mut [bool])
+    pub fn spread(&self, call: CallRead, runs: RunKind, marks: &mut [bool])
         ensures size { length marks.new ≡ length marks.old }
         ensures kept { KeepsMarks marks.old marks.new }
         ensures closed { IsClosed (draft_view self.now) call runs marks.new }

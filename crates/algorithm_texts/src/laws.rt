@@ -3,7 +3,8 @@
 ghost use Rattle.algorithm_texts.specs.Blocks.{MakeBlocks};
 ghost use Rattle.algorithm_texts.specs.Sayings.{AreReadAsSaid};
 ghost use Rattle.algorithm_texts.specs.Operands.{SayOnePart};
-ghost use Rattle.algorithm_texts.specs.Programs.{SpellOne};
+ghost use Rattle.algorithm_texts.specs.Programs.{BeginAtZero, SpellOne};
+ghost use Rattle.algorithm_texts.specs.TextFaults.{NamesFirstLine};
 ghost use Rattle.algorithm_texts.specs.Tokens.{SaysOnce};
 
 /// A line has one list of tokens and one answer, or one first fault.
@@ -29,4 +30,14 @@ pub fn tokens_are_read_as_said()
 /// The algorithms that a text spells are all what one draft says.
 pub fn a_text_spells_one_draft()
     ensures { SpellOne }
+{}
+
+/// A text that says no first value and names no constant spells an algorithm whose words are all 0 at the beginning.
+pub fn a_text_without_values_begins_at_zero()
+    ensures { BeginAtZero }
+{}
+
+/// The fault of a text whose lines do not say tokens is at the first line with which they no longer do.
+pub fn the_first_faulty_line_is_named()
+    ensures { NamesFirstLine }
 {}

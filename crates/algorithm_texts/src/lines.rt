@@ -4,9 +4,10 @@ ghost use Rattle.std.specs.Prelude.{◌≡◌, map, length, slice_get, Some, Mat
 ghost use Rattle.std.specs.Option.{option_copied};
 ghost use Rattle.algorithms.specs.declared.fault.ReadFault.TheVariants.{OutOfMemory as NoMemory};
 ghost use Rattle.algorithm_texts.specs.Parts.{term_of, formula_of};
-ghost use Rattle.algorithm_texts.specs.Operands.{RefusesOperand, MakesName};
+ghost use Rattle.algorithm_texts.specs.Operands.{RefusesAs, MakesName};
 ghost use Rattle.algorithm_texts.specs.Drafts.{draft_view, form_of, local_form, line_of, form_with_place, leading};
 ghost use Rattle.algorithm_texts.specs.LineDrafts.{scope_in, read_value, read_condition, name_set, with_names, with_form, landing, is_each};
+ghost use Rattle.algorithm_texts.specs.LineFaults.{name_set_fault, value_fault};
 
 use crate::names::name_set;
 use crate::tokens::{LineWord, Token};
@@ -67,6 +68,10 @@ pub struct CallRead {
 #[derive(Drop)]
 pub struct Draft {
     pub algorithm: Algorithm,
+    /// The first value of the words of each declaration, where one is said.
+    pub starts: Vec<Option<Expression>>,
+    /// Whether a first value or a constant is said.
+    pub says_values: bool,
     pub opened: Vec<Opened>,
     /// The first place of each block, and the place after it.
     pub blocks: Vec<(usize, usize)>,
@@ -144,7 +149,8 @@ impl Draft {
         ensures value { MatchResult result
             (λ v. read_value (scope_in (draft_view self.old)) (draft_view self.old).names tokens.now
             ≡ Some (term_of v, (draft_view self.new).names))
-            (λ fault. RefusesOperand fault (read_value (scope_in (draft_view self.old)) (draft_view self.old).names tokens.now)) }
+            (λ fault. RefusesAs fault (read_value (scope_in (draft_view self.old)) (draft_view self.old).names tokens.now)
+            (value_fault (scope_in (draft_view self.old)) (draft_view self.old).names tokens.now)) }
         ensures kept { draft_view self.new ≡ with_names (draft_view self.new).names (draft_view self.old) }
     {
         value(alloc, &mut self.algorithm, tokens)
@@ -155,7 +161,8 @@ impl Draft {
         ensures condition { MatchResult result
             (λ c. read_condition (scope_in (draft_view self.old)) (draft_view self.old).names tokens.now
             ≡ Some (formula_of c, (draft_view self.new).names))
-            (λ fault. RefusesOperand fault (read_condition (scope_in (draft_view self.old)) (draft_view self.old).names tokens.now)) }
+            (λ fault. RefusesAs fault (read_condition (scope_in (draft_view self.old)) (draft_view self.old).names tokens.now)
+            (value_fault (scope_in (draft_view self.old)) (draft_view self.old).names tokens.now)) }
         ensures kept { draft_view self.new ≡ with_names (draft_view self.new).names (draft_view self.old) }
     {
         condition(alloc, &mut self.algorithm, tokens)
@@ -164,7 +171,8 @@ impl Draft {
     /// The private name that a line sets.
     pub fn name(&mut self, alloc: Global, token: Option<&Token>) -> Result<usize, ReadFault>
         ensures name { MakesName (draft_view self.new).names result
-            (name_set (scope_in (draft_view self.old)) (draft_view self.old).names (option_copied token.entry)) }
+            (name_set (scope_in (draft_view self.old)) (draft_view self.old).names (option_copied token.entry))
+            (name_set_fault (scope_in (draft_view self.old)) (option_copied token.entry)) }
         ensures kept { draft_view self.new ≡ with_names (draft_view self.new).names (draft_view self.old) }
     {
         name_set(alloc, &mut self.algorithm, token)

@@ -3,15 +3,17 @@
 ghost use Rattle.std.specs.Prelude.{◌≡◌, ◌≤◌, ◌<◌, ◌+◌, ◌⊎◌, ◌++◌, ◌∷◌, [], ◌||◌, IsAscii, OnOk, position, bytes_eq, if◌then◌else◌, Some, None, length, MatchResult};
 ghost use Rattle.std.specs.List.{list_any};
 ghost use Rattle.std.specs.Option.{option_copied};
-ghost use Rattle.algorithm_texts.specs.Grammar.{is_among, private_name_part};
-ghost use Rattle.algorithm_texts.specs.Operands.{MakesName, names_of, declared_of, scope_of, reserved};
-ghost use Rattle.algorithms.specs.declared.fault.ReadFault.TheVariants.{OutOfMemory as NoMemory};
-ghost use Rattle.algorithm_texts.specs.LineDrafts.{is_constant, is_name, new_name, name_set};
+ghost use Rattle.algorithm_texts.specs.Grammar.{is_among, private_name_part, named_part, constant_named};
+ghost use Rattle.algorithm_texts.specs.Operands.{MakesName, MakesWord, names_of, declared_of, named_constants, scope_of, reserved};
+ghost use Rattle.algorithms.specs.declared.fault.ReadFault.TheVariants.{OutOfMemory as NoMemory, TooBig as ManyNames};
+ghost use Rattle.algorithm_texts.specs.LineDrafts.{is_constant, has_declaration, is_name, new_name, name_set};
+ghost use Rattle.algorithm_texts.specs.LineFaults.{new_name_fault, name_set_fault, name_read_fault, undeclared_name_fault};
 ghost use Rattle.algorithm_texts.specs.TextDrafts.{undeclared_name};
 
+use crate::constants::{constant_named, is_constant_name};
 use crate::tokens::{LineWord, Token};
 use algorithms::algorithm::Algorithm;
-use algorithms::expression::NAMES;
+use algorithms::expression::{Expression, NAMES};
 use algorithms::fault::ReadFault;
 use std::alloc::Global;
 
@@ -113,7 +115,7 @@ fn index_of(algorithm: &Algorithm, word: &[u8]) -> Option<usize>
 /// A word as a new name: no word of the format.
 pub fn new_name(token: Option<&Token>) -> Result<LineWord, ReadFault>
     ensures { MatchResult result (λ word. new_name (option_copied token.entry) ≡ Some word)
-        (λ _. new_name (option_copied token.entry) ≡ None) }
+        (λ fault. (new_name (option_copied token.entry) ≡ None) × (fault ≡ new_name_fault (option_copied token.entry))) }
 {
     match token {
         Some(Token::Word(word)) => {
@@ -146,6 +148,13 @@ pub fn is_declared(algorithm: &Algorithm, word: &[u8]) -> bool
     declaration_of(algorithm, word).is_some()
 }
 
+/// Whether a constant or a shared word has this name.
+fn has_declaration(algorithm: &Algorithm, word: &[u8]) -> bool
+    ensures { result ≡ has_declaration (scope_of algorithm.now) word.now }
+{
+    is_declared(algorithm, word) || is_constant_name(algorithm, word)
+}
+
 /// Whether there is a private name like this.
 fn is_private(algorithm: &Algorithm, word: &[u8]) -> bool
     ensures { result ≡ is_among (names_of algorithm.now) word.now }
@@ -156,7 +165,7 @@ fn is_private(algorithm: &Algorithm, word: &[u8]) -> bool
 /// Adds a private name, and answers its index. `TooBig` where there are as many as can be.
 fn add_name(alloc: Global, algorithm: &mut Algorithm, word: &[u8]) -> Result<usize, ReadFault>
     requires { IsAscii word.now }
-    ensures place { MakesName (names_of algorithm.new) result (private_name_part 32 (names_of algorithm.old) word.now None) }
+    ensures place { MakesName (names_of algorithm.new) result (private_name_part 32 (names_of algorithm.old) word.now None) ManyNames }
     ensures kept { algorithm.new ≡ record algorithm.old { names = algorithm.new.names } }
 {
     let index = algorithm.names.len();
@@ -171,7 +180,8 @@ fn add_name(alloc: Global, algorithm: &mut Algorithm, word: &[u8]) -> Result<usi
 fn place_of(alloc: Global, algorithm: &mut Algorithm, word: &[u8]) -> Result<usize, ReadFault>
     requires { IsAscii word.now }
     ensures place { MakesName (names_of algorithm.new) result
-        (private_name_part 32 (names_of algorithm.old) word.now (position (λ name. bytes_eq name word.now) (names_of algorithm.old))) }
+        (private_name_part 32 (names_of algorithm.old) word.now (position (λ name. bytes_eq name word.now) (names_of algorithm.old)))
+        ManyNames }
     ensures kept { algorithm.new ≡ record algorithm.old { names = algorithm.new.names } }
 {
     match index_of(algorithm, word) {
@@ -187,22 +197,47 @@ pub fn name_set(
     token: Option<&Token>,
 ) -> Result<usize, ReadFault>
     ensures name { MakesName (names_of algorithm.new) result
-        (name_set (scope_of algorithm.old) (names_of algorithm.old) (option_copied token.entry)) }
+        (name_set (scope_of algorithm.old) (names_of algorithm.old) (option_copied token.entry))
+        (name_set_fault (scope_of algorithm.old) (option_copied token.entry)) }
     ensures kept { algorithm.new ≡ record algorithm.old { names = algorithm.new.names } }
 {
     let word = new_name(token)?;
-    if is_declared(algorithm, word.as_bytes()) {
+    if has_declaration(algorithm, word.as_bytes()) {
         return Err(ReadFault::NotAssignable);
     }
     place_of(alloc, algorithm, word.as_bytes())
 }
 
-/// The private name that a value reads.
-pub fn name_read(alloc: Global, algorithm: &mut Algorithm, word: &[u8]) -> Result<usize, ReadFault>
+/// The value of the constant of this name, else a private name.
+fn constant_or_private(
+    alloc: Global,
+    algorithm: &mut Algorithm,
+    word: &[u8],
+) -> Result<Expression, ReadFault>
     requires { IsAscii word.now }
-    ensures place { MakesName (names_of algorithm.new) result
+    ensures value { MakesWord (names_of algorithm.new) result
+        (named_part (scope_of algorithm.old) (names_of algorithm.old) word.now
+        (constant_named (named_constants algorithm.old) word.now)) ManyNames }
+    ensures kept { algorithm.new ≡ record algorithm.old { names = algorithm.new.names } }
+{
+    match constant_named(alloc, algorithm, word)? {
+        Some(value) => Ok(value),
+        None => Ok(Expression::Private(place_of(alloc, algorithm, word)?)),
+    }
+}
+
+/// The value that a name has in a value: that of a constant, else a private name.
+pub fn named_value(
+    alloc: Global,
+    algorithm: &mut Algorithm,
+    word: &[u8],
+) -> Result<Expression, ReadFault>
+    requires { IsAscii word.now }
+    ensures value { MakesWord (names_of algorithm.new) result
         (if is_among reserved word.now || is_among (declared_of algorithm.old) word.now then None
-        else private_name_part 32 (names_of algorithm.old) word.now (position (λ name. bytes_eq name word.now) (names_of algorithm.old))) }
+        else named_part (scope_of algorithm.old) (names_of algorithm.old) word.now
+        (constant_named (named_constants algorithm.old) word.now))
+        (name_read_fault (scope_of algorithm.old) word.now) }
     ensures kept { algorithm.new ≡ record algorithm.old { names = algorithm.new.names } }
 {
     if is_reserved(word) {
@@ -211,7 +246,7 @@ pub fn name_read(alloc: Global, algorithm: &mut Algorithm, word: &[u8]) -> Resul
     if is_declared(algorithm, word) {
         return Err(ReadFault::TwoAccesses);
     }
-    place_of(alloc, algorithm, word)
+    constant_or_private(alloc, algorithm, word)
 }
 
 /// Declares a private name that stays from call to call.
@@ -223,7 +258,7 @@ pub fn declare_private(
     requires { IsAscii word.now }
     ensures name { MatchResult result
         (λ _. (length (names_of algorithm.old) < 32) × (names_of algorithm.new ≡ names_of algorithm.old ++ word.now ∷ []))
-        (λ fault. (fault ≡ NoMemory) ⊎ (32 ≤ length (names_of algorithm.old))) }
+        (λ fault. (fault ≡ NoMemory) ⊎ ((32 ≤ length (names_of algorithm.old)) × (fault ≡ ManyNames))) }
     ensures kept { OnOk result (algorithm.new
         ≡ record algorithm.old { names = algorithm.new.names; lasting = length (names_of algorithm.old) + 1 }) }
 {
@@ -235,11 +270,12 @@ pub fn declare_private(
 /// A name that is not declared yet.
 pub fn undeclared_name(algorithm: &Algorithm, token: Option<&Token>) -> Result<LineWord, ReadFault>
     ensures { MatchResult result
-        (λ word. undeclared_name (declared_of algorithm.now) (names_of algorithm.now) (option_copied token.entry) ≡ Some word)
-        (λ _. undeclared_name (declared_of algorithm.now) (names_of algorithm.now) (option_copied token.entry) ≡ None) }
+        (λ word. undeclared_name (scope_of algorithm.now) (names_of algorithm.now) (option_copied token.entry) ≡ Some word)
+        (λ fault. (undeclared_name (scope_of algorithm.now) (names_of algorithm.now) (option_copied token.entry) ≡ None)
+        × (fault ≡ undeclared_name_fault (option_copied token.entry))) }
 {
     let word = new_name(token)?;
-    if is_declared(algorithm, word.as_bytes()) || is_private(algorithm, word.as_bytes()) {
+    if has_declaration(algorithm, word.as_bytes()) || is_private(algorithm, word.as_bytes()) {
         return Err(ReadFault::NameTaken);
     }
     Ok(word)

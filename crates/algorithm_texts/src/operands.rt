@@ -6,7 +6,7 @@ ghost use Rattle.algorithm_texts.specs.declared.operands.Bracket.TheVariants.{No
 ghost use Rattle.algorithm_texts.specs.declared.operands.Joint.TheVariants.{And as AndJoint, Or as OrJoint};
 ghost use Rattle.algorithm_texts.specs.Parts.{part_of, formula_of, value_in, condition_in, join_of, operation_of, comparison_of, enclosed_part, enclosed_two, pair_of_parts};
 ghost use Rattle.algorithm_texts.specs.Grammar.{strength};
-ghost use Rattle.algorithm_texts.specs.Operands.{Makes, MakesValue, MakesCondition, RefusesOperand};
+ghost use Rattle.algorithm_texts.specs.Operands.{Makes, MakesValue, MakesCondition, RefusesAs};
 
 use algorithms::condition::{Comparison, Condition, Pair};
 use algorithms::expression::{Expression, Operator};
@@ -124,7 +124,7 @@ fn compare(comparison: Comparison, left: Operand, right: Operand) -> Result<Oper
 fn boxed_condition(alloc: Global, part: Operand) -> Result<Box<Condition>, ReadFault>
     ensures { MatchResult result
         (λ boxed. condition_in (part_of part) ≡ Some (formula_of boxed.value))
-        (λ fault. RefusesOperand fault (condition_in (part_of part))) }
+        (λ fault. RefusesAs fault (condition_in (part_of part)) NoForm) }
 {
     Ok(Box::new(alloc, part.condition()?)?)
 }

@@ -1,8 +1,10 @@
 //! The parts of a line: the tokens that have to come next, and what they name.
 
-ghost use Rattle.std.specs.Prelude.{◌≡◌, drop, length, slice_get, OnErr, OnOk, IfOk, IfErr, Some, None, true, false, ◌||◌, codes, position};
+ghost use Rattle.std.specs.Prelude.{◌≡◌, drop, length, slice_get, OnOk, IfOk, IfErr, Some, None, true, false, ◌||◌, codes, position};
 ghost use Rattle.std.specs.Option.{option_copied};
+ghost use Rattle.algorithms.specs.declared.fault.ReadFault.TheVariants.{BadForm as NoForm};
 ghost use Rattle.algorithm_texts.specs.Fronts.{past_word, past_sign, is_over, is_the_word, letters_of, named_by, deed_words, members_words, deed_said, members_said, past_withdraw, ends_value, value_tokens, value_rest, begins_no_simple};
+ghost use Rattle.algorithm_texts.specs.LineFaults.{undone_fault};
 ghost use Rattle.algorithm_texts.specs.Tokens.{value_of_name};
 
 use crate::tokens::{LineWord, Sign, Token, is_sign, is_word};
@@ -23,7 +25,7 @@ pub fn after(tokens: &[Token], count: usize) -> &[Token]
 /// The tokens after a word that has to come next.
 pub fn after_word<'t>(tokens: &'t [Token], word: &[u8]) -> Result<&'t [Token], ReadFault>
     ensures ok { IfOk result (λ rest. past_word tokens.now word.now ≡ Some rest.now) }
-    ensures err { OnErr result (past_word tokens.now word.now ≡ None) }
+    ensures err { IfErr result (λ fault. (past_word tokens.now word.now ≡ None) × (fault ≡ NoForm)) }
 {
     if is_word(tokens.first(), word) {
         Ok(after(tokens, 1))
@@ -35,7 +37,7 @@ pub fn after_word<'t>(tokens: &'t [Token], word: &[u8]) -> Result<&'t [Token], R
 /// The tokens after a sign that has to come next.
 pub fn after_sign(tokens: &[Token], sign: Sign) -> Result<&[Token], ReadFault>
     ensures ok { IfOk result (λ rest. past_sign tokens.now sign ≡ Some rest.now) }
-    ensures err { OnErr result (past_sign tokens.now sign ≡ None) }
+    ensures err { IfErr result (λ fault. (past_sign tokens.now sign ≡ None) × (fault ≡ NoForm)) }
 {
     if is_sign(tokens.first(), sign) {
         Ok(after(tokens, 1))
@@ -47,7 +49,7 @@ pub fn after_sign(tokens: &[Token], sign: Sign) -> Result<&[Token], ReadFault>
 /// `BadForm` where a token is left.
 pub fn check_end(tokens: &[Token]) -> Result<(), ReadFault>
     ensures ok { OnOk result (is_over tokens.now ≡ true) }
-    ensures err { OnErr result (is_over tokens.now ≡ false) }
+    ensures err { IfErr result (λ fault. (is_over tokens.now ≡ false) × (fault ≡ NoForm)) }
 {
     if tokens.is_empty() {
         Ok(())
@@ -59,7 +61,7 @@ pub fn check_end(tokens: &[Token]) -> Result<(), ReadFault>
 /// `BadDeed` where a deed or `may withdraw` is left, `BadForm` where another token is.
 pub fn ended_without_deed(tokens: &[Token]) -> Result<(), ReadFault>
     ensures ok { OnOk result (is_over tokens.now ≡ true) }
-    ensures err { OnErr result (is_over tokens.now ≡ false) }
+    ensures err { IfErr result (λ fault. (is_over tokens.now ≡ false) × (fault ≡ undone_fault tokens.now)) }
 {
     if is_word(tokens.first(), b"this") || is_word(tokens.first(), b"may") {
         return Err(ReadFault::BadDeed);
@@ -164,7 +166,7 @@ fn value_end(tokens: &[Token]) -> Option<usize>
 /// The processes that a loop goes over: `in MEMBERS`.
 pub fn members_said(tokens: &[Token]) -> Result<Members, ReadFault>
     ensures ok { IfOk result (λ members. members_said tokens.now ≡ Some members) }
-    ensures err { OnErr result (members_said tokens.now ≡ None) }
+    ensures err { IfErr result (λ fault. (members_said tokens.now ≡ None) × (fault ≡ NoForm)) }
 {
     let rest = after_word(tokens, b"in")?;
     let members = members_of(rest.first()).ok_or(ReadFault::BadForm)?;
@@ -175,7 +177,7 @@ pub fn members_said(tokens: &[Token]) -> Result<Members, ReadFault>
 /// The deed that a line says: `this is DEED`.
 pub fn deed_said(tokens: &[Token]) -> Result<AlgorithmDeed, ReadFault>
     ensures ok { IfOk result (λ deed. deed_said tokens.now ≡ Some deed) }
-    ensures err { OnErr result (deed_said tokens.now ≡ None) }
+    ensures err { IfErr result (λ fault. (deed_said tokens.now ≡ None) × (fault ≡ NoForm)) }
 {
     let rest = after_word(after_word(tokens, b"this")?, b"is")?;
     let deed = deed_of(rest.first()).ok_or(ReadFault::BadForm)?;
@@ -186,7 +188,7 @@ pub fn deed_said(tokens: &[Token]) -> Result<AlgorithmDeed, ReadFault>
 /// The tokens after `may withdraw`, where a line says it.
 pub fn after_withdraw(tokens: &[Token]) -> Result<&[Token], ReadFault>
     ensures ok { IfOk result (λ rest. past_withdraw tokens.now ≡ Some rest.now) }
-    ensures err { OnErr result (past_withdraw tokens.now ≡ None) }
+    ensures err { IfErr result (λ fault. (past_withdraw tokens.now ≡ None) × (fault ≡ NoForm)) }
 {
     if is_word(tokens.first(), b"may") {
         after_word(after(tokens, 1), b"withdraw")

@@ -1,16 +1,15 @@
 //! Where local lines of a call go round.
 
-ghost use Rattle.std.specs.Prelude.{◌≡◌, ◌⊎◌, ◌+◌, ◌<◌, ◌≤◌, ◌&&◌, ℕ, true, false, not, Some, [], OnOk, OnErr, IfErr, MatchBool, length, slice_set, if◌then◌else◌};
+ghost use Rattle.std.specs.Prelude.{◌≡◌, ◌⊎◌, ◌+◌, ◌<◌, ◌≤◌, ◌&&◌, ℕ, true, false, not, Some, [], OnOk, IfOk, IfErr, MatchBool, length, slice_set, if◌then◌else◌};
 ghost use Rattle.std.specs.List.{list_any};
-ghost use Rattle.algorithms.specs.Faults.{fault_of};
 ghost use Rattle.algorithms.specs.declared.fault.ReadFault.TheVariants.{Endless};
 ghost use Rattle.algorithm_texts.specs.declared.flow.RunKind.TheVariants.{All};
 ghost use Rattle.algorithm_texts.specs.Drafts.{draft_view};
 ghost use Rattle.algorithm_texts.specs.FinishedDrafts.{is_in, is_within};
 ghost use Rattle.algorithm_texts.specs.Marks.{KeepsMarks, MarksReached, and_then, places_of_ways};
-ghost use Rattle.algorithm_texts.specs.Rounds.{LeadOn, LocalMarked, RoundsMarked, count_marks, is_loose, leads_on};
-ghost use Rattle.algorithm_texts.specs.Runs.{NoneReturns, is_access, leads_to, ways_from};
-ghost use Rattle.algorithm_texts.specs.TextFaults.{IsFaultOfRounds, OrMemory};
+ghost use Rattle.algorithm_texts.specs.Rounds.{LeadOn, LocalMarked, ReturnsMarked, RoundsMarked, count_marks, is_loose, leads_on};
+ghost use Rattle.algorithm_texts.specs.Runs.{NoneReturns, NotOnRound, ReturnsSilently, is_access, leads_to, ways_from};
+ghost use Rattle.algorithm_texts.specs.TextFaults.{IsFaultAtFirst, OrMemory};
 ghost use Rattle.algorithm_texts.specs.TextLines.{IsRefusalOf};
 ghost use Rattle.algorithm_texts.specs.Usage.{uses, passes_at};
 
@@ -26,6 +25,8 @@ fn mark_way(marks: &mut [bool], way: Option<usize>)
     ensures kept { KeepsMarks marks.old marks.new }
     ensures marked { (place : ℕ) → leads_to (and_then way []) place ≡ true → place < length marks.new
         → is_in marks.new place ≡ true }
+    ensures comes { (place : ℕ) → is_in marks.new place ≡ true
+        → (is_in marks.old place ≡ true) ⊎ (leads_to (and_then way []) place ≡ true) }
 {
     if let Some(place) = way {
         mark(marks, place);
@@ -78,14 +79,16 @@ impl Draft {
         is_marked_way(places, ways.first) || is_marked_way(places, ways.second)
     }
 
-    /// Marks the places to which a line leads.
-    fn follow(&self, call: CallRead, place: usize, places: &mut [bool])
+    /// Marks the places to which runs of this kind go from a line.
+    fn follow(&self, call: CallRead, runs: RunKind, place: usize, places: &mut [bool])
         ensures size { length places.new ≡ length places.old }
         ensures kept { KeepsMarks places.old places.new }
-        ensures marked { (way : ℕ) → leads_to (ways_from (draft_view self.now) call All place) way ≡ true → way < length places.new
+        ensures marked { (way : ℕ) → leads_to (ways_from (draft_view self.now) call runs place) way ≡ true → way < length places.new
             → is_in places.new way ≡ true }
+        ensures comes { (way : ℕ) → is_in places.new way ≡ true
+            → (is_in places.old way ≡ true) ⊎ (leads_to (ways_from (draft_view self.now) call runs place) way ≡ true) }
     {
-        let ways = self.all_ways(call, place);
+        let ways = self.ways_from(call, runs, place);
         mark_way(places, ways.first);
         mark_way(places, ways.second);
     }
@@ -109,7 +112,7 @@ impl Draft {
         self.unmark_all(call, followed);
         for place in call.from..call.to {
             if is_in(left, place) {
-                self.follow(call, place, followed);
+                self.follow(call, RunKind::All, place, followed);
             }
         }
     }
@@ -158,7 +161,8 @@ impl Draft {
         }
     }
 
-    /// `Endless` where local lines can go round: some are left where those at the ends are taken out again and again.
+    /// `Endless` at the first line of those that local lines lead round: they are left where those at the ends are taken out again
+    /// and again.
     pub fn check_ends(
         &self,
         alloc: Global,
@@ -168,12 +172,13 @@ impl Draft {
         requires { MarksReached (draft_view self.now) call reached.now }
         ensures ok { OnOk result (NoneReturns (draft_view self.now) call) }
         ensures err { IfErr result (λ fault. IsRefusalOf fault (NoneReturns (draft_view self.now) call)) }
-        ensures first { IfErr result (λ fault. OrMemory fault (IsFaultOfRounds (draft_view self.now) call fault)) }
+        ensures first { IfErr result (λ fault. OrMemory fault
+            (IsFaultAtFirst (draft_view self.now).lines Endless (NotOnRound (draft_view self.now) call) fault)) }
     {
         let mut left = self.marks_from(alloc, call, false)?;
         let mut followed = self.marks_from(alloc, call, false)?;
         self.mark_rounds(call, reached, left.as_mut_slice(), followed.as_mut_slice());
-        self.check_none(call, left.as_slice())
+        self.check_left(alloc, call, left.as_slice())
     }
 
     /// Marks the local places that are reached, and takes out those at the ends again and again.
@@ -219,14 +224,46 @@ impl Draft {
         }
     }
 
-    /// `Endless` at the first place that is left.
-    fn check_none(&self, call: CallRead, left: &[bool]) -> Result<(), AlgorithmFault>
-        ensures ok { OnOk result ((at : ℕ) → is_within (call.«from», call.to) at ≡ true → is_in left.now at ≡ true → ⊥) }
-        ensures err { OnErr result ((at : ℕ) × (is_within (call.«from», call.to) at ≡ true) × (is_in left.now at ≡ true)) }
-        ensures named { IfErr result (λ fault. (line : ℕ) × (fault ≡ fault_of line Endless)) }
+    /// Whether a run without an access comes from a place back to it.
+    fn comes_back(&self, alloc: Global, call: CallRead, place: usize) -> Result<bool, AllocError>
+        ensures yes { IfOk result (λ back. back ≡ true → ReturnsSilently (draft_view self.now) call place) }
+        ensures no { IfOk result (λ back. ReturnsSilently (draft_view self.now) call place → back ≡ true) }
+    {
+        let mut marks = self.marks_from(alloc, call, false)?;
+        self.follow(call, RunKind::Silent, place, marks.as_mut_slice());
+        self.spread(call, RunKind::Silent, marks.as_mut_slice());
+        Ok(is_in(marks.as_slice(), place))
+    }
+
+    /// Whether a place is left, and a run without an access comes from it back to it.
+    fn is_on_round(
+        &self,
+        alloc: Global,
+        call: CallRead,
+        left: &[bool],
+        place: usize,
+    ) -> Result<bool, AllocError>
+        ensures yes { IfOk result (λ on. on ≡ true
+            → (is_in left.now place ≡ true) × ReturnsSilently (draft_view self.now) call place) }
+        ensures no { IfOk result (λ on. is_in left.now place ≡ true
+            → ReturnsSilently (draft_view self.now) call place → on ≡ true) }
+    {
+        if is_in(left, place) {
+            self.comes_back(alloc, call, place)
+        } else {
+            Ok(false)
+        }
+    }
+
+    /// `Endless` at the first place of those that are left from which a run without an access comes back to it.
+    fn check_left(&self, alloc: Global, call: CallRead, left: &[bool]) -> Result<(), AlgorithmFault>
+        ensures ok { OnOk result ((at : ℕ) → ReturnsMarked (draft_view self.now) call left.now at → ⊥) }
+        ensures first { IfErr result (λ fault. OrMemory fault (IsFaultAtFirst (draft_view self.now).lines Endless
+            (λ at. ReturnsMarked (draft_view self.now) call left.now at → ⊥) fault)) }
     {
         for place in call.from..call.to {
-            if is_in(left, place) {
+            let on = self.is_on_round(alloc, call, left, place)?;
+            if on {
                 return Err(self.fault_at(ReadFault::Endless, place));
             }
         }

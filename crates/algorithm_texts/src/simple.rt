@@ -1,9 +1,10 @@
 //! Statements that are no blocks.
 
-ghost use Rattle.std.specs.Prelude.{◌≡◌, map, None, MatchResult, IsAscii, string_bytes, position, bytes_eq};
-ghost use Rattle.algorithms.specs.declared.fault.ReadFault.TheVariants.{OutOfMemory as NoMemory};
+ghost use Rattle.std.specs.Prelude.{◌≡◌, map, None, MatchResult, IsAscii, string_bytes, slice_get, position, bytes_eq};
+ghost use Rattle.algorithms.specs.declared.fault.ReadFault.TheVariants.{OutOfMemory as NoMemory, BadForm as NoForm};
 ghost use Rattle.algorithm_texts.specs.Drafts.{draft_view};
 ghost use Rattle.algorithm_texts.specs.LineDrafts.{answer_place, Drafts, read_assigned_value, read_assigned, read_set_to, read_private_assignment, read_assignment, placed_answer, read_done, read_goto, read_simple};
+ghost use Rattle.algorithm_texts.specs.LineFaults.{set_to_fault, private_assignment_fault, assignment_fault, assigned_value_fault, assigned_fault, label_fault, simple_fault};
 
 use crate::accesses::{begins_swap, begins_word};
 use crate::lines::{Draft, Jump};
@@ -51,7 +52,8 @@ fn answer_place(alloc: Global, answers: &mut Vec<String>, answer: &[u8]) -> Resu
 impl Draft {
     /// `:= swap ..`, `:= WORD` or `:= VALUE` after a private name.
     fn set_to(&mut self, alloc: Global, name: usize, tokens: &[Token]) -> Result<(), ReadFault>
-        ensures { Drafts (draft_view self.new) result (read_set_to (draft_view self.old) name tokens.now) }
+        ensures { Drafts (draft_view self.new) result (read_set_to (draft_view self.old) name tokens.now)
+            (set_to_fault (draft_view self.old) tokens.now) }
     {
         let rest = after_sign(tokens, Sign::Assign)?;
         self.take_assigned(alloc, name, rest)
@@ -59,7 +61,8 @@ impl Draft {
 
     /// `NAME := swap ..`, `NAME := WORD` or `NAME := VALUE`.
     fn sets(&mut self, alloc: Global, tokens: &[Token]) -> Result<(), ReadFault>
-        ensures { Drafts (draft_view self.new) result (read_private_assignment (draft_view self.old) tokens.now) }
+        ensures { Drafts (draft_view self.new) result (read_private_assignment (draft_view self.old) tokens.now)
+            (private_assignment_fault (draft_view self.old) tokens.now) }
     {
         let name = self.name(alloc, tokens.first())?;
         self.set_to(alloc, name, after(tokens, 1))
@@ -67,7 +70,8 @@ impl Draft {
 
     /// `WORD := VALUE`, or what a private name is set to.
     fn assignment(&mut self, alloc: Global, tokens: &[Token]) -> Result<(), ReadFault>
-        ensures { Drafts (draft_view self.new) result (read_assignment (draft_view self.old) tokens.now) }
+        ensures { Drafts (draft_view self.new) result (read_assignment (draft_view self.old) tokens.now)
+            (assignment_fault (draft_view self.old) tokens.now) }
     {
         let first = letters(tokens.first()).ok_or(ReadFault::BadForm)?;
         if is_declared(&self.algorithm, first.as_bytes()) {
@@ -88,7 +92,8 @@ impl Draft {
         name: usize,
         tokens: &[Token],
     ) -> Result<(), ReadFault>
-        ensures { Drafts (draft_view self.new) result (read_assigned_value (draft_view self.old) name tokens.now) }
+        ensures { Drafts (draft_view self.new) result (read_assigned_value (draft_view self.old) name tokens.now)
+            (assigned_value_fault (draft_view self.old) tokens.now) }
     {
         let (assigned, rest) = split_value(tokens);
         let value = self.value(alloc, assigned)?;
@@ -104,7 +109,8 @@ impl Draft {
         name: usize,
         tokens: &[Token],
     ) -> Result<(), ReadFault>
-        ensures { Drafts (draft_view self.new) result (read_assigned (draft_view self.old) name tokens.now) }
+        ensures { Drafts (draft_view self.new) result (read_assigned (draft_view self.old) name tokens.now)
+            (assigned_fault (draft_view self.old) tokens.now) }
     {
         if begins_swap(tokens) {
             self.swaps(alloc, name, after(tokens, 1))
@@ -118,7 +124,7 @@ impl Draft {
     /// `done WORDS`.
     fn take_done(&mut self, alloc: Global, rest: &[Token], answer: &[u8]) -> Result<(), ReadFault>
         requires { IsAscii answer.now }
-        ensures { Drafts (draft_view self.new) result (read_done (draft_view self.old) rest.now answer.now) }
+        ensures { Drafts (draft_view self.new) result (read_done (draft_view self.old) rest.now answer.now) NoForm }
     {
         check_end(rest)?;
         let place = answer_place(alloc, &mut self.algorithm.answers, answer)?;
@@ -128,7 +134,7 @@ impl Draft {
 
     /// `goto NAME`.
     fn jump(&mut self, rest: &[Token]) -> Result<(), ReadFault>
-        ensures { Drafts (draft_view self.new) result (read_goto (draft_view self.old) rest.now) }
+        ensures { Drafts (draft_view self.new) result (read_goto (draft_view self.old) rest.now) (label_fault (slice_get rest.now 0)) }
     {
         let name = new_name(rest.first())?;
         check_end(after(rest, 1))?;
@@ -145,7 +151,8 @@ impl Draft {
         answer: &[u8],
     ) -> Result<(), ReadFault>
         requires { IsAscii answer.now }
-        ensures { Drafts (draft_view self.new) result (read_simple (draft_view self.old) tokens.now answer.now) }
+        ensures { Drafts (draft_view self.new) result (read_simple (draft_view self.old) tokens.now answer.now)
+            (simple_fault (draft_view self.old) tokens.now) }
     {
         let first = tokens.first();
         if is_word(first, b"goto") {

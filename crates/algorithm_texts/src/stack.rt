@@ -1,7 +1,7 @@
 //! What waits while a value or a condition is read.
 
 ghost use Rattle.std.specs.Prelude.{◌≡◌, ◌≤◌, ◌∷◌, [], List, ℕ, map, reverse, OnOk, IfOk, IfErr, MatchOption};
-ghost use Rattle.algorithms.specs.declared.fault.ReadFault.TheVariants.{OutOfMemory as NoMemory};
+ghost use Rattle.algorithms.specs.declared.fault.ReadFault.TheVariants.{OutOfMemory as NoMemory, BadForm as NoForm, TooBig as ManyBrackets};
 ghost use Rattle.algorithm_texts.specs.Parts.{part_of};
 ghost use Rattle.algorithm_texts.specs.Stacks.{Opened, is_open, brackets, stack_reduction, reading_after_bracket, closes, halves};
 ghost use Rattle.algorithm_texts.specs.Operands.{waits_of, stack_of, Reduces, Turns};
@@ -147,7 +147,7 @@ pub fn reduce(
 /// Ends the innermost bracket, after this part.
 pub fn close(alloc: Global, stack: &mut Stack, part: Operand) -> Result<StackPlace, ReadFault>
     ensures { (names : List (List ℕ)) → Turns names (stack_of stack.new) result
-        (closes names (stack_of stack.old) (part_of part)) }
+        (closes names (stack_of stack.old) (part_of part)) NoForm }
 {
     match stack.pop() {
         Some(Waiting::Bracket(head)) => Ok(StackPlace::After(enclose(alloc, head, part)?)),
@@ -161,7 +161,7 @@ pub fn close(alloc: Global, stack: &mut Stack, part: Operand) -> Result<StackPla
 /// Lets an open bracket wait with its first part, after the comma.
 fn half(stack: &mut Stack, head: Bracket, first: Operand) -> Result<StackPlace, ReadFault>
     ensures { (names : List (List ℕ)) → Turns names (stack_of stack.new) result
-        (halves names (Opened head ∷ stack_of stack.old) (part_of first)) }
+        (halves names (Opened head ∷ stack_of stack.old) (part_of first)) NoForm }
 {
     match head {
         Bracket::Not => Err(form_fault(first)),
@@ -175,7 +175,7 @@ fn half(stack: &mut Stack, head: Bracket, first: Operand) -> Result<StackPlace, 
 /// Reads the comma of the innermost bracket, after this part.
 pub fn comma(stack: &mut Stack, part: Operand) -> Result<StackPlace, ReadFault>
     ensures { (names : List (List ℕ)) → Turns names (stack_of stack.new) result
-        (halves names (stack_of stack.old) (part_of part)) }
+        (halves names (stack_of stack.old) (part_of part)) NoForm }
 {
     match stack.pop() {
         Some(Waiting::Bracket(head)) => half(stack, head, part),
@@ -187,7 +187,7 @@ pub fn comma(stack: &mut Stack, part: Operand) -> Result<StackPlace, ReadFault>
 /// Opens a bracket. `TooBig` where they stand too deep.
 pub fn open(stack: &mut Stack, head: Bracket) -> Result<StackPlace, ReadFault>
     ensures { (names : List (List ℕ)) → Turns names (stack_of stack.new) result
-        (reading_after_bracket names (stack_of stack.old) head) }
+        (reading_after_bracket names (stack_of stack.old) head) ManyBrackets }
 {
     if stack.brackets() >= DEEPEST {
         return Err(ReadFault::TooBig);

@@ -74,7 +74,7 @@ pub struct Tokens {
 
 impl LineWord {
     /// These letters. `TooBig` where there are more than a name has.
-    fn of(bytes: &[u8]) -> Result<LineWord, ReadFault>
+    pub fn of(bytes: &[u8]) -> Result<LineWord, ReadFault>
         requires { IsAscii bytes.now }
         ensures ok { IfOk result (λ word. (word ≡ bytes.now) × (length bytes.now ≤ 32)) }
         ensures err { IfErr result (λ fault. (fault ≡ ReadFault.TooBig) × (32 < length bytes.now)) }

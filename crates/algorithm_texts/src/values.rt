@@ -1,16 +1,17 @@
 //! Values and conditions from tokens, by the strength of their operators.
 
-ghost use Rattle.std.specs.Prelude.{◌≡◌, ◌⊎◌, List, ℕ, IsAscii, IfOk, IfErr, Some, MatchResult};
-ghost use Rattle.algorithms.specs.declared.fault.ReadFault.TheVariants.{OutOfMemory as NoMemory};
+ghost use Rattle.std.specs.Prelude.{◌≡◌, ◌⊎◌, List, ℕ, IsAscii, IfOk, IfErr, OnOk, Some, MatchResult};
+ghost use Rattle.algorithms.specs.declared.fault.ReadFault.TheVariants.{OutOfMemory as NoMemory, BadForm as NoForm};
 ghost use Rattle.algorithm_texts.specs.declared.tokens.Sign.TheVariants.{Close as CloseSign, Comma as CommaSign};
 ghost use Rattle.algorithm_texts.specs.declared.tokens.Token.TheVariants.{Word as WordToken, Sign as SignToken};
 ghost use Rattle.algorithm_texts.specs.Parts.{part_of, term_of, formula_of, Value as ValuePart, Condition as ConditionPart};
 ghost use Rattle.algorithm_texts.specs.Grammar.{word_value as word_value_of, Says};
 ghost use Rattle.algorithm_texts.specs.Stacks.{Waits, head_of, reading_after_word, reading_at_part, reading_after_head, joint_of, joining, reading_after_part, reading_after_token, run, part_at_end, read_part, reading, Begins};
-ghost use Rattle.algorithm_texts.specs.Operands.{stack_of, next_of, Turns, MakesWord, EndsOperand, SayNoValue, SayNoCondition, scope_of, names_of, RefusesOperand};
+ghost use Rattle.algorithm_texts.specs.Operands.{stack_of, next_of, Turns, MakesWord, EndsOperand, ReadsOperand, SayNoValue, SayNoCondition, scope_of, names_of, RefusesAs};
 ghost use Rattle.algorithm_texts.specs.LineDrafts.{read_value, read_condition};
+ghost use Rattle.algorithm_texts.specs.LineFaults.{name_read_fault, begun_fault, headed_fault, index_fault, followed_fault, token_fault, run_fault, value_fault};
 
-use crate::names::name_read;
+use crate::names::named_value;
 use crate::operands::{Bracket, Joint, Operand, form_fault};
 use crate::stack::{Stack, StackPlace, Waiting, close, comma, open, reduce};
 use crate::tokens::{Sign, Token};
@@ -35,7 +36,7 @@ fn bracket_after(word: &[u8]) -> Option<Bracket>
     }
 }
 
-/// The value that a word is: a number of the format, or a private name.
+/// The value that a word is: a number of the format, that of a constant, or a private name.
 fn word_value(
     alloc: Global,
     algorithm: &mut Algorithm,
@@ -43,7 +44,8 @@ fn word_value(
 ) -> Result<Expression, ReadFault>
     requires { IsAscii word.now }
     ensures value { MakesWord (names_of algorithm.new) result
-        (word_value_of (scope_of algorithm.old) (names_of algorithm.old) word.now) }
+        (word_value_of (scope_of algorithm.old) (names_of algorithm.old) word.now)
+        (name_read_fault (scope_of algorithm.old) word.now) }
     ensures kept { algorithm.new ≡ record algorithm.old { names = algorithm.new.names } }
 {
     if word == b"me".as_slice() {
@@ -53,7 +55,7 @@ fn word_value(
     } else if word == b"limit".as_slice() {
         Ok(Expression::Limit)
     } else {
-        Ok(Expression::Private(name_read(alloc, algorithm, word)?))
+        named_value(alloc, algorithm, word)
     }
 }
 
@@ -65,7 +67,8 @@ fn first_word(
 ) -> Result<StackPlace, ReadFault>
     requires { IsAscii word.now }
     ensures place { (ws : List Waits) → Turns (names_of algorithm.new) ws result
-        (reading_after_word (scope_of algorithm.old) (names_of algorithm.old) ws word.now (head_of word.now)) }
+        (reading_after_word (scope_of algorithm.old) (names_of algorithm.old) ws word.now (head_of word.now))
+        (name_read_fault (scope_of algorithm.old) word.now) }
     ensures kept { algorithm.new ≡ record algorithm.old { names = algorithm.new.names } }
 {
     match bracket_after(word) {
@@ -82,7 +85,8 @@ fn begin(
     token: &Token,
 ) -> Result<StackPlace, ReadFault>
     ensures place { Turns (names_of algorithm.new) (stack_of stack.new) result
-        (reading_at_part (scope_of algorithm.old) (names_of algorithm.old) (stack_of stack.old) token.now) }
+        (reading_at_part (scope_of algorithm.old) (names_of algorithm.old) (stack_of stack.old) token.now)
+        (begun_fault (scope_of algorithm.old) token.now) }
     ensures kept { algorithm.new ≡ record algorithm.old { names = algorithm.new.names } }
 {
     match token {
@@ -96,7 +100,7 @@ fn begin(
 /// Reads the bracket after its word.
 fn head(stack: &mut Stack, head: Bracket, token: &Token) -> Result<StackPlace, ReadFault>
     ensures { (names : List (List ℕ)) → Turns names (stack_of stack.new) result
-        (reading_after_head names (stack_of stack.old) head token.now) }
+        (reading_after_head names (stack_of stack.old) head token.now) (headed_fault token.now) }
 {
     match token {
         Token::Sign(Sign::Open) => open(stack, head),
@@ -125,7 +129,7 @@ fn join_on(
     joint: Joint,
 ) -> Result<StackPlace, ReadFault>
     ensures { (names : List (List ℕ)) → Turns names (stack_of stack.new) result
-        (joining names (stack_of stack.old) (part_of part) (Some joint)) }
+        (joining names (stack_of stack.old) (part_of part) (Some joint)) NoForm }
 {
     let left = reduce(alloc, stack, part, joint.strength())?;
     stack.push(Waiting::Joint(left, joint))?;
@@ -140,7 +144,7 @@ fn join_by(
     word: &[u8],
 ) -> Result<StackPlace, ReadFault>
     ensures { (names : List (List ℕ)) → Turns names (stack_of stack.new) result
-        (reading_after_part names (stack_of stack.old) (part_of part) (WordToken word.now)) }
+        (reading_after_part names (stack_of stack.old) (part_of part) (WordToken word.now)) NoForm }
 {
     match joint_word(word) {
         Some(joint) => join_on(alloc, stack, part, joint),
@@ -149,7 +153,9 @@ fn join_by(
 }
 
 /// What is wrong with an index after a value: the word before it would be a shared one that is not declared.
-fn index_fault(part: &Operand) -> ReadFault {
+fn index_fault(part: &Operand) -> ReadFault
+    ensures { result ≡ index_fault (part_of part.now) }
+{
     match part {
         Operand::Value(Expression::Private(_)) => ReadFault::UnknownName,
         _ => ReadFault::BadForm,
@@ -159,7 +165,7 @@ fn index_fault(part: &Operand) -> ReadFault {
 /// Ends the innermost bracket.
 fn close_after(alloc: Global, stack: &mut Stack, part: Operand) -> Result<StackPlace, ReadFault>
     ensures { (names : List (List ℕ)) → Turns names (stack_of stack.new) result
-        (reading_after_part names (stack_of stack.old) (part_of part) (SignToken CloseSign)) }
+        (reading_after_part names (stack_of stack.old) (part_of part) (SignToken CloseSign)) NoForm }
 {
     let whole = reduce(alloc, stack, part, 1)?;
     close(alloc, stack, whole)
@@ -168,7 +174,7 @@ fn close_after(alloc: Global, stack: &mut Stack, part: Operand) -> Result<StackP
 /// Reads the comma of the innermost bracket.
 fn comma_after(alloc: Global, stack: &mut Stack, part: Operand) -> Result<StackPlace, ReadFault>
     ensures { (names : List (List ℕ)) → Turns names (stack_of stack.new) result
-        (reading_after_part names (stack_of stack.old) (part_of part) (SignToken CommaSign)) }
+        (reading_after_part names (stack_of stack.old) (part_of part) (SignToken CommaSign)) NoForm }
 {
     let whole = reduce(alloc, stack, part, 1)?;
     comma(stack, whole)
@@ -182,7 +188,8 @@ fn sign_after(
     sign: Sign,
 ) -> Result<StackPlace, ReadFault>
     ensures { (names : List (List ℕ)) → Turns names (stack_of stack.new) result
-        (reading_after_part names (stack_of stack.old) (part_of part) (SignToken sign)) }
+        (reading_after_part names (stack_of stack.old) (part_of part) (SignToken sign))
+        (followed_fault (part_of part) (SignToken sign)) }
 {
     match sign {
         Sign::Close => close_after(alloc, stack, part),
@@ -209,7 +216,7 @@ fn go_on(
     token: &Token,
 ) -> Result<StackPlace, ReadFault>
     ensures { (names : List (List ℕ)) → Turns names (stack_of stack.new) result
-        (reading_after_part names (stack_of stack.old) (part_of part) token.now) }
+        (reading_after_part names (stack_of stack.old) (part_of part) token.now) (followed_fault (part_of part) token.now) }
 {
     match token {
         Token::Sign(sign) => sign_after(alloc, stack, part, *sign),
@@ -227,7 +234,8 @@ fn turn(
     token: &Token,
 ) -> Result<StackPlace, ReadFault>
     ensures place { Turns (names_of algorithm.new) (stack_of stack.new) result
-        (reading_after_token (scope_of algorithm.old) (names_of algorithm.old) (stack_of stack.old) (next_of place) token.now) }
+        (reading_after_token (scope_of algorithm.old) (names_of algorithm.old) (stack_of stack.old) (next_of place) token.now)
+        (token_fault (scope_of algorithm.old) (next_of place) token.now) }
     ensures kept { algorithm.new ≡ record algorithm.old { names = algorithm.new.names } }
 {
     match place {
@@ -245,7 +253,10 @@ fn read_tokens(
     tokens: &[Token],
 ) -> Result<StackPlace, ReadFault>
     ensures place { Turns (names_of algorithm.new) (stack_of stack.new) result
-        (run (scope_of algorithm.old) tokens.now (reading (names_of algorithm.old) (stack_of stack.old) Begins)) }
+        (run (scope_of algorithm.old) tokens.now (reading (names_of algorithm.old) (stack_of stack.old) Begins))
+        (run_fault (scope_of algorithm.old) tokens.now (reading (names_of algorithm.old) (stack_of stack.old) Begins)) }
+    ensures faults { OnOk result
+        (run_fault (scope_of algorithm.old) tokens.now (reading (names_of algorithm.old) (stack_of stack.old) Begins) ≡ NoForm) }
     ensures kept { algorithm.new ≡ record algorithm.old { names = algorithm.new.names } }
 {
     let mut place = StackPlace::Start;
@@ -271,8 +282,10 @@ fn end(alloc: Global, stack: &mut Stack, place: StackPlace) -> Result<Operand, R
 
 /// What the tokens say, as a whole.
 fn parse(alloc: Global, algorithm: &mut Algorithm, tokens: &[Token]) -> Result<Operand, ReadFault>
-    ensures part { EndsOperand (names_of algorithm.new) result
-        (read_part (scope_of algorithm.old) (names_of algorithm.old) tokens.now) }
+    ensures part { ReadsOperand (names_of algorithm.new) result
+        (read_part (scope_of algorithm.old) (names_of algorithm.old) tokens.now)
+        (value_fault (scope_of algorithm.old) (names_of algorithm.old) tokens.now) }
+    ensures faults { OnOk result (value_fault (scope_of algorithm.old) (names_of algorithm.old) tokens.now ≡ NoForm) }
     ensures kept { algorithm.new ≡ record algorithm.old { names = algorithm.new.names } }
 {
     let mut stack = Stack::new(alloc);
@@ -288,7 +301,8 @@ pub fn value(
 ) -> Result<Expression, ReadFault>
     ensures reads { MatchResult result
         (λ v. read_value (scope_of algorithm.old) (names_of algorithm.old) tokens.now ≡ Some (term_of v, names_of algorithm.new))
-        (λ fault. RefusesOperand fault (read_value (scope_of algorithm.old) (names_of algorithm.old) tokens.now)) }
+        (λ fault. RefusesAs fault (read_value (scope_of algorithm.old) (names_of algorithm.old) tokens.now)
+        (value_fault (scope_of algorithm.old) (names_of algorithm.old) tokens.now)) }
     ensures ok { IfOk result (λ v. Says
         (scope_of algorithm.old) (names_of algorithm.old) tokens.now (ValuePart (term_of v)) (names_of algorithm.new)) }
     ensures err { IfErr result (λ fault. (fault ≡ NoMemory)
@@ -309,7 +323,8 @@ pub fn condition(
 ) -> Result<Condition, ReadFault>
     ensures reads { MatchResult result
         (λ c. read_condition (scope_of algorithm.old) (names_of algorithm.old) tokens.now ≡ Some (formula_of c, names_of algorithm.new))
-        (λ fault. RefusesOperand fault (read_condition (scope_of algorithm.old) (names_of algorithm.old) tokens.now)) }
+        (λ fault. RefusesAs fault (read_condition (scope_of algorithm.old) (names_of algorithm.old) tokens.now)
+        (value_fault (scope_of algorithm.old) (names_of algorithm.old) tokens.now)) }
     ensures ok { IfOk result (λ c. Says
         (scope_of algorithm.old) (names_of algorithm.old) tokens.now (ConditionPart (formula_of c)) (names_of algorithm.new)) }
     ensures err { IfErr result (λ fault. (fault ≡ NoMemory)

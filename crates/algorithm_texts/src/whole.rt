@@ -8,13 +8,13 @@ ghost use Rattle.algorithms.specs.Faults.{fault_of};
 ghost use Rattle.algorithms.specs.declared.fault.ReadFault.TheVariants.{Endless, BadDeed};
 ghost use Rattle.algorithms.specs.Ranked.{LocalLinesEnd, AccessesLeadOn};
 ghost use Rattle.algorithms.specs.declared.line.AlgorithmDeed.TheVariants as deeds;
-ghost use Rattle.algorithm_texts.specs.Drafts.{Drafted, PlacedLine, draft_view, line_of};
+ghost use Rattle.algorithm_texts.specs.Drafts.{Drafted, PlacedLine, draft_view, line_of, start_term};
 ghost use Rattle.algorithm_texts.specs.FinishedDrafts.{begins_of, call_in, finished_draft, first_of, is_in, kind_led, with_entries, with_lines};
 ghost use Rattle.algorithm_texts.specs.Lawful.{CallsFit, KindFits};
 ghost use Rattle.algorithm_texts.specs.Marks.{KeepsMarks};
 ghost use Rattle.algorithm_texts.specs.Programs.{SpellsAlgorithm, SpellsDraft};
 ghost use Rattle.algorithm_texts.specs.Runs.{AllRuns, KindComesTo, KindRuns};
-ghost use Rattle.algorithm_texts.specs.UnreachedLines.{EndUnreached, MarksRuns};
+ghost use Rattle.algorithm_texts.specs.UnreachedLines.{EndUnreached, MarksRuns, starts_in};
 ghost use Rattle.algorithm_texts.specs.Usage.{may_withdraw};
 ghost use Rattle.algorithm_texts.specs.TextFaults.{FailsFirst, IsFaultOfAllRuns, IsFaultOfAllCalls, IsFaultOfEither, IsFaultOfEmptyCall, IsFaultOfKindCall, IsFaultOfKindRuns, IsFaultOfNoCall, IsFaultOfText, IsFaultOfWays, IsFaultOfWithdraw, OrMemory, StaysAt, number_at, number_of_kind};
 ghost use Rattle.algorithm_texts.specs.TextLines.{IsRefusalOf};
@@ -25,9 +25,11 @@ use crate::flow::mark_all;
 use crate::lines::{CallRead, Draft};
 use crate::marks::{end_unmarked, runs_stay};
 use crate::usage::may_withdraw;
-use algorithms::algorithm::{Algorithm, AlgorithmCall, Entries};
+use algorithms::algorithm::{AlgorithmCall, Entries};
 use algorithms::deeds::says_deed;
+use algorithms::expression::Expression;
 use algorithms::fault::{AlgorithmFault, ReadFault};
+use algorithms::first_values::{FirstValues, InitializedAlgorithm};
 use algorithms::line::{AlgorithmDeed, AlgorithmLine};
 use std::alloc::Global;
 
@@ -314,23 +316,44 @@ fn check_deeds(draft: &Draft) -> Result<(), AlgorithmFault>
     )
 }
 
-/// Reads an algorithm from a text.
+/// The first values of an algorithm, where a first value or a constant is said.
+fn first_values(starts: Vec<Option<Expression>>, says_values: bool) -> Option<FirstValues>
+    ensures { starts_in result ≡ (if says_values then Some (map start_term starts.items) else None) }
+{
+    if says_values {
+        Some(FirstValues { starts })
+    } else {
+        None
+    }
+}
+
+/// Reads an algorithm from a text, with the first values of its words.
 ///
 /// Faults are looked for in four rounds, and the first that is found is named: those of the characters and tokens of all lines;
 /// those of forms, declared names, blocks and calls; call by call those of labels, names and deeds; and call by call those of
 /// what runs may do, and at last that the lock says `enter` and the unlock `leave`. Calls are taken in the order lock, unlock,
 /// recover, withdraw, whatever their order in the text, and in each call labels before names and deeds.
-pub fn read_algorithm(alloc: Global, text: &[u8]) -> Result<Algorithm, AlgorithmFault>
+pub fn read_algorithm(alloc: Global, text: &[u8]) -> Result<InitializedAlgorithm, AlgorithmFault>
     ensures spells { IfOk result (λ a. SpellsAlgorithm text.now a) }
-    ensures ends { IfOk result LocalLinesEnd }
-    ensures leads { IfOk result AccessesLeadOn }
-    ensures enters { IfOk result (λ a. SaysDeed a a.entries.lock deeds.Enter) }
-    ensures leaves { IfOk result (λ a. SaysDeed a a.entries.unlock deeds.Leave) }
-    ensures refuses { IfErr result (λ fault. IsRefusalOf fault ((a : Algorithm) × SpellsAlgorithm text.now a)) }
+    ensures ends { IfOk result (λ a. LocalLinesEnd a.algorithm) }
+    ensures leads { IfOk result (λ a. AccessesLeadOn a.algorithm) }
+    ensures enters { IfOk result (λ a. SaysDeed a.algorithm a.algorithm.entries.lock deeds.Enter) }
+    ensures leaves { IfOk result (λ a. SaysDeed a.algorithm a.algorithm.entries.unlock deeds.Leave) }
+    ensures refuses { IfErr result (λ fault. IsRefusalOf fault ((a : InitializedAlgorithm) × SpellsAlgorithm text.now a)) }
     ensures first { IfErr result (λ fault. OrMemory fault (IsFaultOfText text.now fault)) }
 {
     let mut draft = fitting_draft(alloc, text)?;
     check_flow(alloc, &mut draft)?;
     check_deeds(&draft)?;
-    Ok(draft.algorithm)
+    let Draft {
+        algorithm,
+        starts,
+        says_values,
+        ..
+    } = draft;
+    let first_values = first_values(starts, says_values);
+    Ok(InitializedAlgorithm {
+        algorithm,
+        first_values,
+    })
 }

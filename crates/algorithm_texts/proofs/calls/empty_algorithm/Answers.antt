@@ -7,10 +7,11 @@ returns-clause-ok c = record {
   named = c.in_ok-from_utf8_lossy.ensures.ok (IsUtf8-from_ascii c.args.name.now c.requires);
   least_is = refl;
   most_is = refl;
-  no_declarations = c.new.ensures.items;
-  no_names = c.new-2.ensures.items;
+  no_constants = c.new.ensures.items;
+  no_declarations = c.new-2.ensures.items;
+  no_names = c.new-3.ensures.items;
   none_last = refl;
-  no_answers = c.new-3.ensures.items;
-  no_lines = c.new-4.ensures.items;
+  no_answers = c.new-4.ensures.items;
+  no_lines = c.new-5.ensures.items;
   no_entries = refl;
 }

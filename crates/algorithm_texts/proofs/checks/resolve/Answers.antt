@@ -1,10 +1,10 @@
-use Rattle.std.proofs.Common.{◌≡◌, ℕ, ◌+◌, true, false, map, drop, Some, sym, ap, ◌∙◌}
+use Rattle.std.proofs.Common.{◌≡◌, ℕ, ◌+◌, map, drop, Some, sym, ap, ◌∙◌}
 use Rattle.std.specs.List.{find}
 use Rattle.algorithms.specs.Faults.{fault_of}
 use Rattle.algorithms.specs.declared.fault.ReadFault.TheVariants.{BadLabel}
 use Rattle.algorithm_texts.specs.declared.lines.Jump.{Jump}
 use Rattle.algorithm_texts.specs.Drafts.{line_of}
-use Rattle.algorithm_texts.specs.FinishedDrafts.{is_within, jumps_led}
+use Rattle.algorithm_texts.specs.FinishedDrafts.{jumps_led}
 use Rattle.algorithm_texts.specs.TextFaults.{leads_nowhere, number_at}
 use Rattle.algorithm_texts.proofs.CallFaults.{found_here, jump_leads, jump_numbers, leads_to_none, of_another, pass_on, led_on, skip_on}
 use Rattle.algorithm_texts.proofs.RunFaults.{err_named}

@@ -3,9 +3,9 @@ use Rattle.std.specs.List.{drop-map}
 use Rattle.std.proofs.lemmas.Result.{err_from_is_err_and}
 use Rattle.algorithm_texts.specs.Drafts.{draft_view}
 use Rattle.algorithm_texts.specs.TextDrafts.{read_lines, read_text}
-use Rattle.algorithm_texts.specs.TextFaults.{BeginsDraft, IsFaultOfForms, IsFaultOfHead, IsFaultOfLater, OrMemory}
-use Rattle.algorithm_texts.specs.TextLines.{IsFirstFaultyLine, RefusesLines, SaysUpTo, spoken_of}
-use Rattle.algorithm_texts.proofs.RunFaults.{or_memory}
+use Rattle.algorithm_texts.specs.TextFaults.{BeginsDraft, IsFaultOfForms, IsFaultOfHead, IsFaultOfLater, IsFaultOfLines, OrMemory}
+use Rattle.algorithm_texts.specs.TextLines.{RefusesLines, spoken_of}
+use Rattle.algorithm_texts.proofs.RunFaults.{or_memory, part_or_memory}
 use Rattle.algorithm_texts.proofs.OneDraft.{unsaid, unread}
 use Rattle.algorithm_texts.proofs.drafts.forms.Goals as goal
 
@@ -36,8 +36,8 @@ returns-in_err-read_all-clause-err c =
 
 pub returns-in_err-lines-clause-first : goal.returns-in_err-lines-clause-first
 returns-in_err-lines-clause-first c =
-    let p = err_from_is_err_and c.from_residual.result c.from_residual.ensures.1 in
-    rw (p.1, p.2) (inr (inl c.in_err-lines.ensures.first))
+    part_or_memory c.from_residual.result c.in_err-lines.field-0.0 (IsFaultOfLines c.args.text.now) (λ fault. IsFaultOfLines c.args.text.now fault ⊎ IsFaultOfLater c.args.text.now fault)
+    c.from_residual.ensures.1 (λ h. inl h) c.in_err-lines.ensures.first
 
 pub returns-in_err-draft-clause-first : goal.returns-in_err-draft-clause-first
 returns-in_err-draft-clause-first c =
@@ -46,7 +46,7 @@ returns-in_err-draft-clause-first c =
     let spoken = map spoken_of c.in_ok-lines.lines.items in
     let head = subst (λ xs. OrMemory fault (IsFaultOfHead (slice_get (map spoken_of xs) 0) (slice_get (map spoken_of xs) 1) fault)) c.as_slice.ensures.value c.in_err-draft.ensures.first in
     rw (p.1, p.2)
-    (or_memory fault (IsFaultOfHead (slice_get spoken 0) (slice_get spoken 1) fault) (IsFirstFaultyLine fault (SaysUpTo c.args.text.now) ⊎ IsFaultOfLater c.args.text.now fault)
+    (or_memory fault (IsFaultOfHead (slice_get spoken 0) (slice_get spoken 1) fault) (IsFaultOfLines c.args.text.now fault ⊎ IsFaultOfLater c.args.text.now fault)
     (λ h. inr (spoken, c.in_ok-lines.ensures.ok, inl h)) head)
 
 pub returns-in_err-read_all-clause-first : goal.returns-in_err-read_all-clause-first
@@ -60,5 +60,5 @@ returns-in_err-read_all-clause-first c =
     let begins = subst (λ xs. BeginsDraft (map spoken_of xs) draft) c.as_slice.ensures.value c.in_ok-draft.ensures.begins in
     let stops = subst (λ ss. OrMemory fault (IsFaultOfForms draft ss fault)) rest c.in_err-read_all.ensures.first in
     rw (p.1, p.2)
-    (or_memory fault (IsFaultOfForms draft (drop 2 (map spoken_of lines)) fault) (IsFirstFaultyLine fault (SaysUpTo c.args.text.now) ⊎ IsFaultOfLater c.args.text.now fault)
+    (or_memory fault (IsFaultOfForms draft (drop 2 (map spoken_of lines)) fault) (IsFaultOfLines c.args.text.now fault ⊎ IsFaultOfLater c.args.text.now fault)
     (λ h. inr (map spoken_of lines, c.in_ok-lines.ensures.ok, inr (draft, begins, h))) stops)

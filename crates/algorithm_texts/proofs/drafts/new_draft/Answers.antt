@@ -1,17 +1,34 @@
-use Rattle.std.proofs.Common.{map, reverse, string_bytes, ap}
+use Rattle.std.proofs.Common.{false, map, reverse, string_bytes, ap}
 use Rattle.std.specs.Option.{option_map}
+use Rattle.algorithms.specs.declared.algorithm.NamedConstant.{NamedConstant}
+use Rattle.algorithms.specs.declared.algorithm.Declaration.{Declaration}
 use Rattle.algorithm_texts.specs.Parts.{term_of}
-use Rattle.algorithm_texts.specs.Drafts.{line_of}
+use Rattle.algorithm_texts.specs.Drafts.{line_of, start_term}
 use Rattle.algorithm_texts.proofs.drafts.new_draft.Goals as goal
 
 pub returns : goal.returns
-returns c = λ h e.
-    let bounds = ap (map (λ d. option_map (λ b. term_of b) d.bound)) e.no_declarations in
-    let declared = ap (map (λ d. string_bytes d.name)) e.no_declarations in
-    let each = ap (map (λ d. d.each)) e.no_declarations in
-    let names = ap (map (λ name. string_bytes name)) e.no_names in
-    let answers = ap (map (λ answer. string_bytes answer)) e.no_answers in
-    let lines = ap (map line_of) e.no_lines in
-    let opened = ap reverse c.new.ensures.items in
-    let calls = ap reverse c.new-5.ensures.items in
-    cc
+returns c = λ h e i. record {
+  head = record {
+    name = e.named i;
+    least = e.least_is i;
+    most = e.most_is i;
+    promises = c.args.promises;
+    constants = ap (map (λ (k : NamedConstant). (string_bytes k.name, term_of k.value))) e.no_constants i;
+    bounds = ap (map (λ (d : Declaration). option_map (λ b. term_of b) d.bound)) e.no_declarations i;
+    entries = e.no_entries i;
+  };
+  declared = ap (map (λ (d : Declaration). string_bytes d.name)) e.no_declarations i;
+  each = ap (map (λ (d : Declaration). d.each)) e.no_declarations i;
+  starts = ap (map start_term) c.new-6.ensures.items i;
+  says_values = false;
+  lasting = e.none_last i;
+  number = c.args.number;
+  names = ap (map (λ name. string_bytes name)) e.no_names i;
+  answers = ap (map (λ answer. string_bytes answer)) e.no_answers i;
+  lines = ap (map line_of) e.no_lines i;
+  opened = ap reverse c.new.ensures.items i;
+  blocks = c.new-2.ensures.items i;
+  labels = c.new-3.ensures.items i;
+  jumps = c.new-4.ensures.items i;
+  calls = ap reverse c.new-5.ensures.items i;
+}

@@ -1,9 +1,10 @@
-use Rattle.std.proofs.Common.{◌⊎◌, ap, inr, subst}
+use Rattle.std.proofs.Common.{◌⊎◌, ◌∙◌, ap, inr, subst}
 use Rattle.std.proofs.lemmas.Result.{err_from_is_err_and}
 use Rattle.algorithms.specs.declared.line.AlgorithmDeed.TheVariants.{Enter, Leave}
 use Rattle.algorithm_texts.specs.Drafts.{Drafted, draft_view}
 use Rattle.algorithm_texts.specs.Lawful.{NotesDeed}
 use Rattle.algorithm_texts.specs.Runs.{AllRuns}
+use Rattle.algorithm_texts.specs.UnreachedLines.{said_starts}
 use Rattle.algorithm_texts.specs.TextFaults.{IsFaultOfAllRuns, IsFaultOfText, IsFaultOfWays}
 use Rattle.algorithm_texts.proofs.DraftFaults.{spelled_fault, flow_fault, deeds_fault}
 use Rattle.algorithm_texts.proofs.LawfulRuns.{deeds_refused, flow_refused}
@@ -24,7 +25,8 @@ returns-clause-spells c =
     subst (λ k. NotesDeed ready k Enter) (ap (λ es. es.lock) entries) (noted_of ready a a.entries.lock Enter flow.lines entries deeds.enters) in
     let leaves : NotesDeed ready ready.head.entries.unlock Leave =
     subst (λ k. NotesDeed ready k Leave) (ap (λ es. es.unlock) entries) (noted_of ready a a.entries.unlock Leave flow.lines entries deeds.leaves) in
-    spelled c.args.text.now c.in_ok-draft.draft c.check_flow.new.draft c.in_ok-draft.ensures.ok flow.runs enters leaves flow.lines flow.kept
+    spelled c.args.text.now c.in_ok-draft.draft c.check_flow.new.draft c.first_values-first_values.result c.in_ok-draft.ensures.ok flow.runs enters leaves flow.lines flow.kept
+    (c.first_values-first_values.ensures ∙ ap said_starts flow.kept)
 
 pub returns-in_err-draft-clause-first : goal.returns-in_err-draft-clause-first
 returns-in_err-draft-clause-first c =

@@ -1,15 +1,16 @@
-use Rattle.std.proofs.Common.{◌≡◌, ℕ, ◌+◌, false, length, inr, sym, ap, ◌∙◌, subst, true}
+use Rattle.std.proofs.Common.{◌≡◌, ◌+◌, false, length, sym, ap, ◌∙◌, subst, true}
 use Rattle.std.proofs.lemmas.List.{with_items_is}
 use Rattle.std.proofs.lemmas.Result.{on_ok_weaker, IfErr-weaker}
-use Rattle.algorithms.specs.Faults.{fault_of}
 use Rattle.algorithms.specs.declared.fault.ReadFault.TheVariants.{Endless}
 use Rattle.algorithm_texts.specs.Drafts.{draft_view}
-use Rattle.algorithm_texts.specs.FinishedDrafts.{is_in, is_within}
-use Rattle.algorithm_texts.specs.Runs.{NoneReturns}
+use Rattle.algorithm_texts.specs.FinishedDrafts.{is_in}
+use Rattle.algorithm_texts.specs.Rounds.{ReturnsMarked, RoundsMarked}
+use Rattle.algorithm_texts.specs.Runs.{NoneReturns, NotOnRound}
+use Rattle.algorithm_texts.specs.TextFaults.{IsFaultAtFirst, OrMemory}
 use Rattle.algorithm_texts.specs.TextLines.{IsRefusalOf}
 use Rattle.algorithm_texts.proofs.RunMarks.{length-marks_from, none_in}
-use Rattle.algorithm_texts.proofs.RoundMarks.{round_local, left_round}
-use Rattle.algorithm_texts.proofs.RunFaults.{round_fault}
+use Rattle.algorithm_texts.proofs.RoundMarks.{round_first, round_marked, round_refused}
+use Rattle.algorithm_texts.proofs.RunFaults.{or_memory}
 use Rattle.algorithm_texts.proofs.lines.Draft.check_ends.Goals as goal
 
 pub mark_rounds-requires-clause-none : goal.mark_rounds-requires-clause-none
@@ -28,29 +29,26 @@ pub returns-clause-ok : goal.returns-clause-ok
 returns-clause-ok c =
     let d = draft_view c.args.self.now in
     let now = c.as_slice.ensures.value ∙ with_items_is c.in_ok-left.left c.mark_rounds.new.left (c.mark_rounds.ensures.size ∙ c.as_mut_slice.ensures.len) in
-    on_ok_weaker c.check_none.result
+    on_ok_weaker c.check_left.result
     (λ none at reached back.
-    let l = round_local d c.args.call c.args.reached.now c.requires at (reached, back) in
-    none at l.0.within (subst (λ ms. is_in ms at ≡ true) (sym now) (c.mark_rounds.ensures.rounds at (reached, back))))
-    c.check_none.ensures.ok
-
-pub returns-clause-err : goal.returns-clause-err
-returns-clause-err c =
-    let d = draft_view c.args.self.now in
-    let now = c.as_slice.ensures.value ∙ with_items_is c.in_ok-left.left c.mark_rounds.new.left (c.mark_rounds.ensures.size ∙ c.as_mut_slice.ensures.len) in
-    IfErr-weaker c.check_none.result
-    (λ fault. (at : ℕ) × (is_within (c.args.call.«from», c.args.call.to) at ≡ true) × (is_in c.as_slice.result.now at ≡ true))
-    (λ fault. IsRefusalOf fault (NoneReturns d c.args.call))
-    (λ fault h. inr (left_round d c.args.call c.args.reached.now c.mark_rounds.new.left c.requires c.mark_rounds.ensures.rest c.mark_rounds.ensures.local h.0
-    (subst (λ ms. is_in ms h.0 ≡ true) now h.2)))
-    c.check_none.ensures.err
+    none at (round_marked d c.args.call c.args.reached.now c.as_slice.result.now c.requires (subst (λ ms. RoundsMarked d c.args.call ms) (sym now) c.mark_rounds.ensures.rounds) at (reached, back)))
+    c.check_left.ensures.ok
 
 pub returns-clause-first : goal.returns-clause-first
 returns-clause-first c =
     let d = draft_view c.args.self.now in
     let now = c.as_slice.ensures.value ∙ with_items_is c.in_ok-left.left c.mark_rounds.new.left (c.mark_rounds.ensures.size ∙ c.as_mut_slice.ensures.len) in
-    round_fault (λ fault. (line : ℕ) × (fault ≡ fault_of line Endless)) c.check_none.result
-    (λ (h : (at : ℕ) × (is_within (c.args.call.«from», c.args.call.to) at ≡ true) × (is_in c.as_slice.result.now at ≡ true)).
-    left_round d c.args.call c.args.reached.now c.mark_rounds.new.left c.requires c.mark_rounds.ensures.rest c.mark_rounds.ensures.local h.0
-    (subst (λ ms. is_in ms h.0 ≡ true) now h.2))
-    c.check_none.ensures.err c.check_none.ensures.named
+    IfErr-weaker c.check_left.result
+    (λ fault. OrMemory fault (IsFaultAtFirst d.lines Endless (λ at. ReturnsMarked d c.args.call c.as_slice.result.now at → ⊥) fault))
+    (λ fault. OrMemory fault (IsFaultAtFirst d.lines Endless (NotOnRound d c.args.call) fault))
+    (λ fault. or_memory fault (IsFaultAtFirst d.lines Endless (λ at. ReturnsMarked d c.args.call c.as_slice.result.now at → ⊥) fault)
+    (IsFaultAtFirst d.lines Endless (NotOnRound d c.args.call) fault)
+    (round_first d c.args.call c.args.reached.now c.as_slice.result.now fault c.requires (subst (λ ms. RoundsMarked d c.args.call ms) (sym now) c.mark_rounds.ensures.rounds)
+    (λ at h. c.mark_rounds.ensures.local at (subst (λ ms. is_in ms at ≡ true) now h))))
+    c.check_left.ensures.first
+
+pub returns-clause-err : goal.returns-clause-err
+returns-clause-err c =
+    let d = draft_view c.args.self.now in
+    IfErr-weaker c.check_left.result (λ fault. OrMemory fault (IsFaultAtFirst d.lines Endless (NotOnRound d c.args.call) fault))
+    (λ fault. IsRefusalOf fault (NoneReturns d c.args.call)) (λ fault. round_refused d c.args.call fault) (returns-clause-first c)

@@ -1,9 +1,9 @@
 use Rattle.std.proofs.Common.{inl, inr}
 use Rattle.std.proofs.lemmas.Result.{on_ok_weaker, IfErr-weaker}
-use Rattle.algorithms.specs.declared.fault.ReadFault.TheVariants.{NeverReached, NoStep, Unset}
+use Rattle.algorithms.specs.declared.fault.ReadFault.TheVariants.{Endless, NeverReached, NoStep, Unset}
 use Rattle.algorithm_texts.specs.Drafts.{draft_view}
-use Rattle.algorithm_texts.specs.Runs.{EachIsReached, LineReachedAt, NamesSetAt, NoneReturns, RunsFit, RunsSet, RunsStay, StepFirstAt, StepsComeFirst}
-use Rattle.algorithm_texts.specs.TextFaults.{IsFaultAtFirst, IsFaultOfEnd, IsFaultOfRounds, IsFaultOfRuns, OrMemory}
+use Rattle.algorithm_texts.specs.Runs.{EachIsReached, LineReachedAt, NamesSetAt, NoneReturns, NotOnRound, RunsFit, RunsSet, RunsStay, StepFirstAt, StepsComeFirst}
+use Rattle.algorithm_texts.specs.TextFaults.{IsFaultAtFirst, IsFaultOfEnd, IsFaultOfRuns, OrMemory}
 use Rattle.algorithm_texts.specs.TextLines.{IsRefusalOf}
 use Rattle.algorithm_texts.proofs.RunChecks.{refused_part, part_refused}
 use Rattle.algorithm_texts.proofs.RunFaults.{or_memory, part_or_memory}
@@ -75,6 +75,6 @@ returns-in_err-check_set-clause-first c =
 pub returns-in_err-check_ends-clause-first : goal.returns-in_err-check_ends-clause-first
 returns-in_err-check_ends-clause-first c =
     let d = draft_view c.args.self.now in
-    part_or_memory c.from_residual-in_err-check_ends.result c.in_err-check_ends.field-0.0 (IsFaultOfRounds d c.args.call) (IsFaultOfRuns d c.args.call)
+    part_or_memory c.from_residual-in_err-check_ends.result c.in_err-check_ends.field-0.0 (IsFaultAtFirst d.lines Endless (NotOnRound d c.args.call)) (IsFaultOfRuns d c.args.call)
     c.from_residual-in_err-check_ends.ensures.1
     (λ h. inr (c.in_ok-check_reached.ensures.ok, inr (c.in_ok-check_end.ensures.ok, inr (c.in_ok-check_set.ensures.ok, inl h)))) c.in_err-check_ends.ensures.first

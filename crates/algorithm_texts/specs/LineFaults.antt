@@ -1,0 +1,375 @@
+-- The fault of a line that has no form. A line is read from the left: the first part that is not what is expected there decides.
+use Rattle.std.specs.Prelude.{ℕ, ◌==◌, nat_lt, Bool, true, false, ◌&&◌, ◌||◌, List, [], ◌∷◌, length, take, drop, slice_get, Option, Some, None, if◌then◌else◌, codes, bytes_eq, position}
+use Rattle.std.specs.List.{list_any}
+use Rattle.algorithms.specs.declared.condition.Comparison.TheVariants.{Equal}
+use Rattle.algorithms.specs.declared.fault.ReadFault.{ReadFault}
+use Rattle.algorithms.specs.declared.fault.ReadFault.TheVariants.{NoHeader, BadForm, NameTaken, UnknownName, TwoAccesses, NotAssignable, BadBlock, BadDeed, TooBig, BadCall}
+use Rattle.algorithm_texts.specs.declared.lines.Block.{Block}
+use Rattle.algorithm_texts.specs.declared.lines.Block.TheVariants.{If, Else, For}
+use Rattle.algorithm_texts.specs.declared.lines.Opened.{Opened}
+use Rattle.algorithm_texts.specs.declared.tokens.Sign.TheVariants.{Assign, Open, OpenIndex, Colon, Comparison}
+use Rattle.algorithm_texts.specs.declared.tokens.Token.{Token}
+use Rattle.algorithm_texts.specs.declared.tokens.Token.TheVariants.{Number as NumberToken, Word, Sign}
+use Rattle.algorithm_texts.specs.Parts.{Term, Number, Private, Me, Procs, Limit, Joined, OperandPart, Value, Pair, Condition}
+use Rattle.algorithm_texts.specs.Grammar.{Scope, is_among}
+use Rattle.algorithm_texts.specs.Stacks.{NextToken, Begins, Heads, Follows, OperandReading, reading, turn}
+use Rattle.algorithm_texts.specs.Fronts.{is_the_word, is_the_sign, letters_of, past_word, past_sign, is_over, named_by, members_said, value_tokens, value_rest, begins_no_simple}
+use Rattle.algorithm_texts.specs.Drafts.{Drafted}
+use Rattle.algorithm_texts.specs.LineDrafts.{scope_in, is_constant, has_declaration, new_name, name_set, index_in, with_names, read_value, read_condition, is_each, read_word, read_until, read_swap_value, begins_swap, begins_word, is_no_word, read_test, is_looping}
+use Rattle.algorithm_texts.specs.TextDrafts.{call_words, undeclared_name, is_bound, atoms, is_me, owner_tokens, bound_size, read_bound, read_each, end_call, read_head_words}
+
+-- the fault of a part, where nothing is made of it, else that of what follows it
+abbrev pub fault_from : {A : Type 0} → Option A → ReadFault → (A → ReadFault) → ReadFault
+fault_from None fault following = fault
+fault_from (Some x) fault following = following x
+
+-- ---- names
+
+-- of a word of the format where a new name is needed: its numbers are never set, its other words are taken
+abbrev pub new_word_fault : List ℕ → ReadFault
+new_word_fault word = if is_constant word then NotAssignable else NameTaken
+
+abbrev pub new_name_fault : Option Token → ReadFault
+new_name_fault token = fault_from (letters_of token) BadForm new_word_fault
+
+-- of a name that can't be set: a constant, a shared word, or one private name too many
+abbrev pub set_word_fault : Scope → List ℕ → ReadFault
+set_word_fault scope word = if has_declaration scope word then NotAssignable else TooBig
+
+abbrev pub name_set_fault : Scope → Option Token → ReadFault
+name_set_fault scope token = fault_from (new_name token) (new_name_fault token) (set_word_fault scope)
+
+-- of a word that is no value: a word of the format, a shared word, or one private name too many
+abbrev pub name_read_fault : Scope → List ℕ → ReadFault
+name_read_fault scope word = if is_among scope.reserved word then BadForm else if is_among scope.declared word then TwoAccesses else TooBig
+
+abbrev pub undeclared_name_fault : Option Token → ReadFault
+undeclared_name_fault token = fault_from (new_name token) (new_name_fault token) (λ word. NameTaken)
+
+-- ---- values and conditions: the first token that does not go on with a value or a condition
+
+-- where a part begins: a word that is no value, or one bracket too deep
+abbrev pub begun_fault : Scope → Token → ReadFault
+begun_fault scope (NumberToken n) = BadForm
+begun_fault scope (Word word) = name_read_fault scope word
+begun_fault scope (Sign Open) = TooBig
+begun_fault scope (Sign other) = BadForm
+
+-- after the word before a bracket
+abbrev pub headed_fault : Token → ReadFault
+headed_fault (Sign Open) = TooBig
+headed_fault other = BadForm
+
+-- of an index after a value: after a name it would be that of a shared word which is not declared
+abbrev pub index_fault : OperandPart → ReadFault
+index_fault (Value (Private k)) = UnknownName
+index_fault (Value (Number n)) = BadForm
+index_fault (Value Me) = BadForm
+index_fault (Value Procs) = BadForm
+index_fault (Value Limit) = BadForm
+index_fault (Value (Joined o a b)) = BadForm
+index_fault (Pair a b) = BadForm
+index_fault (Condition c) = BadForm
+
+-- after a part
+abbrev pub followed_fault : OperandPart → Token → ReadFault
+followed_fault part (Sign OpenIndex) = index_fault part
+followed_fault part other = BadForm
+
+abbrev pub token_fault : Scope → NextToken → Token → ReadFault
+token_fault scope Begins token = begun_fault scope token
+token_fault scope (Heads head) token = headed_fault token
+token_fault scope (Follows part) token = followed_fault part token
+
+-- of the first token that is not taken, or of what is left open at the end
+abbrev pub run_fault : Scope → List Token → OperandReading → ReadFault
+run_fault scope [] r = BadForm
+run_fault scope (token ∷ tokens) r = fault_from (turn scope r token) (token_fault scope r.next token) (run_fault scope tokens)
+
+abbrev pub value_fault : Scope → List (List ℕ) → List Token → ReadFault
+value_fault scope names tokens = run_fault scope tokens (reading names [] Begins)
+
+-- ---- parts of a line
+
+-- of an index, or of its lack
+abbrev pub read_index_fault : Scope → Bool → List (List ℕ) → List Token → ReadFault
+read_index_fault scope false names tokens = BadForm
+read_index_fault scope true names tokens =
+    fault_from (past_sign tokens OpenIndex) BadForm
+    (λ inner. fault_from (read_value scope names (value_tokens inner)) (value_fault scope names (value_tokens inner)) (λ v. BadForm))
+
+abbrev pub word_of_fault : Scope → List Bool → List (List ℕ) → List Token → ℕ → ReadFault
+word_of_fault scope each names tokens k = read_index_fault scope (is_each (slice_get each k)) names (drop 1 tokens)
+
+abbrev pub named_word_fault : Scope → List Bool → List (List ℕ) → List Token → List ℕ → ReadFault
+named_word_fault scope each names tokens name =
+    fault_from (position (λ other. bytes_eq other name) scope.declared) UnknownName (word_of_fault scope each names tokens)
+
+-- of a shared word: no name, a name that is not declared, or its index
+abbrev pub shared_word_fault : Scope → List Bool → List (List ℕ) → List Token → ReadFault
+shared_word_fault scope each names tokens = fault_from (letters_of (slice_get tokens 0)) BadForm (named_word_fault scope each names tokens)
+
+-- of `until CONDITION`, and of `to VALUE`: the word, or what follows it
+abbrev pub value_after_fault : Scope → List (List ℕ) → List Token → List ℕ → ReadFault
+value_after_fault scope names tokens word =
+    fault_from (past_word tokens word) BadForm (λ inner. value_fault scope names (value_tokens inner))
+
+abbrev pub until_fault : Scope → List (List ℕ) → List Token → ReadFault
+until_fault scope names tokens = value_after_fault scope names tokens (codes "until")
+
+-- ---- swaps
+
+abbrev pub guard_condition_fault : Scope → List (List ℕ) → List Token → ReadFault
+guard_condition_fault scope names tokens = value_fault scope names (value_tokens tokens)
+
+abbrev pub guard_fault : Scope → List (List ℕ) → List Token → ReadFault
+guard_fault scope names tokens = guard_condition_fault scope names (drop 1 tokens)
+
+abbrev pub swapped_fault : Scope → List (List ℕ) → List Token → ReadFault
+swapped_fault scope names inner =
+    fault_from (read_value scope names (value_tokens inner)) (value_fault scope names (value_tokens inner))
+    (λ v. guard_fault scope v.1 (value_rest inner))
+
+abbrev pub swap_value_fault : Scope → List (List ℕ) → List Token → ReadFault
+swap_value_fault scope names tokens = fault_from (past_word tokens (codes "to")) BadForm (swapped_fault scope names)
+
+-- what follows the value and the condition of a swap has no form but that of a deed
+abbrev pub swap_word_fault : Drafted → List Token → ReadFault
+swap_word_fault d tokens =
+    fault_from (read_swap_value (scope_in d) d.names tokens) (swap_value_fault (scope_in d) d.names tokens) (λ r. BadForm)
+
+abbrev pub swap_fault : Drafted → List Token → ReadFault
+swap_fault d tokens =
+    fault_from (read_word (scope_in d) d.each d.names tokens) (shared_word_fault (scope_in d) d.each d.names tokens)
+    (λ word. swap_word_fault (with_names word.2 d) word.1)
+
+-- of `until CONDITION`, with what follows it
+abbrev pub awaited_fault : Drafted → List Token → ReadFault
+awaited_fault d tokens = fault_from (read_until (scope_in d) d.names tokens) (until_fault (scope_in d) d.names tokens) (λ until. BadForm)
+
+abbrev pub await_swap_word_fault : Drafted → List Token → ReadFault
+await_swap_word_fault d tokens =
+    fault_from (read_swap_value (scope_in d) d.names tokens) (swap_value_fault (scope_in d) d.names tokens)
+    (λ r. awaited_fault (with_names r.3 d) r.2)
+
+abbrev pub awaited_swap_fault : Drafted → List Token → ReadFault
+awaited_swap_fault d tokens =
+    fault_from (read_word (scope_in d) d.each d.names tokens) (shared_word_fault (scope_in d) d.each d.names tokens)
+    (λ word. await_swap_word_fault (with_names word.2 d) word.1)
+
+-- ---- statements that are no blocks
+
+abbrev pub awaited_load_fault : Drafted → List Token → ReadFault
+awaited_load_fault d tokens =
+    fault_from (read_word (scope_in d) d.each d.names tokens) (shared_word_fault (scope_in d) d.each d.names tokens)
+    (λ word. awaited_fault (with_names word.2 d) word.1)
+
+abbrev pub take_await_fault : Drafted → List Token → ReadFault
+take_await_fault d tokens = if begins_swap tokens then awaited_swap_fault d (drop 1 tokens) else awaited_load_fault d tokens
+
+abbrev pub await_of_fault : Drafted → List Token → ReadFault
+await_of_fault d tokens = fault_from (past_sign tokens Assign) BadForm (take_await_fault d)
+
+abbrev pub await_fault : Drafted → List Token → ReadFault
+await_fault d tokens =
+    fault_from (name_set (scope_in d) d.names (slice_get tokens 0)) (name_set_fault (scope_in d) (slice_get tokens 0))
+    (λ name. await_of_fault (with_names name.1 d) (drop 1 tokens))
+
+-- of `:= VALUE`, with what follows it
+abbrev pub stored_fault : Scope → List (List ℕ) → List Token → ReadFault
+stored_fault scope names tokens =
+    fault_from (past_sign tokens Assign) BadForm
+    (λ inner. fault_from (read_value scope names (value_tokens inner)) (value_fault scope names (value_tokens inner)) (λ v. BadForm))
+
+abbrev pub store_fault : Drafted → List Token → ReadFault
+store_fault d tokens =
+    fault_from (read_word (scope_in d) d.each d.names tokens) (shared_word_fault (scope_in d) d.each d.names tokens)
+    (λ word. stored_fault (scope_in d) word.2 word.1)
+
+-- a number or a sign after a shared word makes it part of a value
+abbrev pub load_fault : Drafted → List Token → ReadFault
+load_fault d tokens =
+    fault_from (read_word (scope_in d) d.each d.names tokens) (shared_word_fault (scope_in d) d.each d.names tokens)
+    (λ word. if is_no_word (slice_get word.1 0) then TwoAccesses else BadForm)
+
+-- a deed or `may withdraw` after a line that takes no step
+abbrev pub undone_fault : List Token → ReadFault
+undone_fault tokens =
+    if is_the_word (slice_get tokens 0) (codes "this") || is_the_word (slice_get tokens 0) (codes "may") then BadDeed else BadForm
+
+abbrev pub assigned_value_fault : Drafted → List Token → ReadFault
+assigned_value_fault d tokens =
+    fault_from (read_value (scope_in d) d.names (value_tokens tokens)) (value_fault (scope_in d) d.names (value_tokens tokens))
+    (λ v. undone_fault (value_rest tokens))
+
+abbrev pub assigned_fault : Drafted → List Token → ReadFault
+assigned_fault d tokens =
+    if begins_swap tokens then swap_fault d (drop 1 tokens)
+    else if begins_word d.declared (slice_get tokens 0) (slice_get tokens 1) then load_fault d tokens
+    else assigned_value_fault d tokens
+
+abbrev pub set_to_fault : Drafted → List Token → ReadFault
+set_to_fault d tokens = fault_from (past_sign tokens Assign) BadForm (assigned_fault d)
+
+abbrev pub private_assignment_fault : Drafted → List Token → ReadFault
+private_assignment_fault d tokens =
+    fault_from (name_set (scope_in d) d.names (slice_get tokens 0)) (name_set_fault (scope_in d) (slice_get tokens 0))
+    (λ name. set_to_fault (with_names name.1 d) (drop 1 tokens))
+
+-- of a line that begins with this word
+abbrev pub assigning_fault : Drafted → List Token → List ℕ → ReadFault
+assigning_fault d tokens first =
+    if is_among d.declared first then store_fault d tokens
+    else if is_the_sign (slice_get tokens 1) OpenIndex then UnknownName
+    else if is_the_sign (slice_get tokens 1) Assign then private_assignment_fault d tokens
+    else BadForm
+
+abbrev pub assignment_fault : Drafted → List Token → ReadFault
+assignment_fault d tokens = fault_from (letters_of (slice_get tokens 0)) BadForm (assigning_fault d tokens)
+
+-- of `goto NAME` and `NAME:`: the name, or what follows it
+abbrev pub label_fault : Option Token → ReadFault
+label_fault token = fault_from (new_name token) (new_name_fault token) (λ name. BadForm)
+
+abbrev pub simple_fault : Drafted → List Token → ReadFault
+simple_fault d tokens =
+    if is_the_word (slice_get tokens 0) (codes "goto") then label_fault (slice_get (drop 1 tokens) 0)
+    else if is_the_word (slice_get tokens 0) (codes "done") then BadForm
+    else if is_the_word (slice_get tokens 0) (codes "this") then BadForm
+    else if is_the_word (slice_get tokens 0) (codes "await") then await_fault d (drop 1 tokens)
+    else assignment_fault d tokens
+
+-- ---- blocks
+
+-- of `CONDITION then`
+abbrev pub test_fault : Drafted → List Token → ReadFault
+test_fault d tokens =
+    fault_from (read_condition (scope_in d) d.names (value_tokens tokens)) (value_fault (scope_in d) d.names (value_tokens tokens)) (λ c. BadForm)
+
+-- of what follows `then`: a block too deep, a block in the same line, or its statement
+abbrev pub then_fault : Drafted → List Token → ReadFault
+then_fault d tokens = if is_over tokens then TooBig else if begins_no_simple tokens then BadForm else simple_fault d tokens
+
+abbrev pub branch_fault : Drafted → List Token → ReadFault
+branch_fault d tokens = fault_from (read_test d tokens) (test_fault d tokens) (λ test. then_fault test.0 test.1)
+
+-- of a loop with a head of its form: its name is that of a loop round it, or too many blocks or loops are open
+abbrev pub loop_fault : ℕ → List Opened → ReadFault
+loop_fault name opened = if is_looping name opened then NameTaken else TooBig
+
+-- a declared private name comes before what follows it
+abbrev pub for_name_fault : Drafted → ℕ → List Token → ReadFault
+for_name_fault d name tokens =
+    if nat_lt name d.lasting then NameTaken else fault_from (members_said tokens) BadForm (λ members. loop_fault name d.opened)
+
+abbrev pub for_fault : Drafted → List Token → ReadFault
+for_fault d tokens =
+    fault_from (name_set (scope_in d) d.names (slice_get tokens 0)) (name_set_fault (scope_in d) (slice_get tokens 0))
+    (λ name. for_name_fault d (index_in name.0) (drop 1 tokens))
+
+-- of an `else` in this block. In that of an `if` it has none: one block ends where the other begins
+abbrev pub else_after_fault : Block → ReadFault
+else_after_fault If = TooBig
+else_after_fault Else = BadBlock
+else_after_fault (For name members) = BadBlock
+
+abbrev pub else_in_fault : List Opened → ReadFault
+else_in_fault [] = BadBlock
+else_in_fault (o ∷ os) = else_after_fault o.kind
+
+abbrev pub else_fault : Drafted → List Token → ReadFault
+else_fault d tokens = if is_over tokens then else_in_fault d.opened else BadForm
+
+abbrev pub end_fault : List Token → ReadFault
+end_fault tokens = if is_over tokens then BadBlock else BadForm
+
+-- of a line of a call
+abbrev pub statement_fault : Drafted → List Token → ReadFault
+statement_fault d tokens =
+    if is_the_word (slice_get tokens 0) (codes "if") then branch_fault d (drop 1 tokens)
+    else if is_the_word (slice_get tokens 0) (codes "for") then for_fault d (drop 1 tokens)
+    else if is_the_word (slice_get tokens 0) (codes "else") then else_fault d (drop 1 tokens)
+    else if is_the_word (slice_get tokens 0) (codes "end") then end_fault (drop 1 tokens)
+    else if is_the_sign (slice_get tokens 1) Colon then label_fault (slice_get tokens 0)
+    else simple_fault d tokens
+
+-- ---- declarations and calls
+
+-- of a bound: the words before it, its value, or what is not of numbers, `procs` and `limit` alone
+abbrev pub limit_fault : Scope → List (List ℕ) → List Token → ReadFault
+limit_fault scope names tokens =
+    fault_from (past_word tokens (codes "up")) BadForm
+    (λ up. fault_from (past_word up (codes "to")) BadForm
+    (λ rest. fault_from (read_value scope names (value_tokens rest)) (value_fault scope names (value_tokens rest)) (λ v. BadForm)))
+
+-- of a first value: the word before it, `me`, its value, or what is not of its form
+abbrev pub first_value_fault : Scope → Bool → List (List ℕ) → List Token → ReadFault
+first_value_fault scope each names tokens =
+    fault_from (past_word tokens (codes "starts")) BadForm
+    (λ rest. if list_any is_me rest then BadForm
+    else fault_from (read_value scope names (owner_tokens each (value_tokens rest))) (value_fault scope names (owner_tokens each (value_tokens rest)))
+    (λ v. BadForm))
+
+-- of a bound and a first value, in this order
+abbrev pub bound_and_start_fault : Scope → Bool → List (List ℕ) → List Token → ReadFault
+bound_and_start_fault scope each names tokens =
+    fault_from (read_bound scope names (take (bound_size tokens) tokens)) (limit_fault scope names (take (bound_size tokens) tokens))
+    (λ bound. first_value_fault scope each bound.1 (drop (bound_size tokens) tokens))
+
+-- a shared word too many comes before what follows its name
+abbrev pub shared_fault : Drafted → List Token → ReadFault
+shared_fault d tokens =
+    fault_from (undeclared_name (scope_in d) d.names (slice_get tokens 0)) (undeclared_name_fault (slice_get tokens 0))
+    (λ name. if nat_lt (length d.declared) 64
+    then fault_from (read_each (drop 1 tokens)) BadForm (λ each. bound_and_start_fault (scope_in d) each.0 d.names each.1)
+    else TooBig)
+
+-- a private name too many comes before what follows it
+abbrev pub private_fault : Drafted → List Token → ReadFault
+private_fault d tokens =
+    fault_from (undeclared_name (scope_in d) d.names (slice_get tokens 0)) (undeclared_name_fault (slice_get tokens 0))
+    (λ name. if nat_lt (length d.names) 32 then BadForm else TooBig)
+
+-- of the value of a constant: one of numbers, `procs` and `limit` alone is too long, another has no form
+abbrev pub constant_form_fault : Term → ReadFault
+constant_form_fault v = if is_bound v && nat_lt 16 (atoms v) then TooBig else BadForm
+
+abbrev pub constant_value_fault : Scope → List (List ℕ) → List Token → ReadFault
+constant_value_fault scope names tokens =
+    fault_from (past_sign tokens (Comparison Equal)) BadForm
+    (λ rest. fault_from (read_value scope names (value_tokens rest)) (value_fault scope names (value_tokens rest)) (λ v. constant_form_fault v.0))
+
+abbrev pub constant_fault : Drafted → List Token → ReadFault
+constant_fault d tokens =
+    fault_from (undeclared_name (scope_in d) d.names (slice_get tokens 0)) (undeclared_name_fault (slice_get tokens 0))
+    (λ name. constant_value_fault (scope_in d) d.names (drop 1 tokens))
+
+abbrev pub declaration_fault : Drafted → List Token → ReadFault
+declaration_fault d tokens =
+    if is_the_word (slice_get tokens 0) (codes "shared") then shared_fault d (drop 1 tokens)
+    else if is_the_word (slice_get tokens 0) (codes "private") then private_fault d (drop 1 tokens)
+    else if is_the_word (slice_get tokens 0) (codes "constant") then constant_fault d (drop 1 tokens)
+    else BadForm
+
+-- a block that is open comes first, then the form, then a call that is there already
+abbrev pub call_fault : Drafted → List Token → ℕ → ReadFault
+call_fault d tokens last =
+    fault_from (end_call last d) BadBlock
+    (λ now. fault_from (named_by call_words (slice_get tokens 0)) BadForm (λ call. if is_over (drop 1 tokens) then BadCall else BadForm))
+
+-- of a line after the first two, where the line before it has this number
+abbrev pub line_fault : Drafted → List Token → ℕ → ReadFault
+line_fault d tokens last =
+    if is_the_word (slice_get tokens 0) (codes "call") then call_fault d (drop 1 tokens) last
+    else if length d.calls == 0 then declaration_fault d tokens
+    else statement_fault d tokens
+
+-- ---- the first two lines
+
+-- no header, or a number of processes out of range
+abbrev pub head_fault : List Token → ReadFault
+head_fault tokens = fault_from (read_head_words tokens) NoHeader (λ h. TooBig)
+
+-- no promises, or others
+abbrev pub promises_fault : List Token → ReadFault
+promises_fault tokens = fault_from (past_word tokens (codes "promises")) NoHeader (λ rest. BadForm)

@@ -253,16 +253,22 @@ module _ (n limit p : ℕ) (below : p < n) where
       unstarted : (s : Place) (call : CoreCall) → IsLeaving s → IsSome (place_after_start s call) → ⊥
       unstarted Leaving call h some = cc
       unstarted (Unmarking Unlock) call h some = cc
+      unstarted (Reread Recover seen) call h some = h
+      unstarted (Shutting Recover k) call h some = h
       unstarted _ call h some = h
 
       some_left : (s : Place) → IsLeaving s → 0 < steps_left n s
       some_left Leaving h = omega arith
       some_left (Unmarking Unlock) h = omega arith
+      some_left (Reread Recover seen) h = absurd h
+      some_left (Shutting Recover k) h = absurd h
       some_left _ h = absurd h
 
       busy : (s : Place) → IsLeaving s → Busy s
       busy Leaving h = tt
       busy (Unmarking Unlock) h = tt
+      busy (Reread Recover seen) h = absurd h
+      busy (Shutting Recover k) h = absurd h
       busy _ h = absurd h
 
   pub recovering : Measure n limit p IsRecovering (steps_left n)

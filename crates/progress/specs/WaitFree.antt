@@ -1,9 +1,11 @@
 -- Wait-free parts of the calls: a process that takes steps leaves them after a bounded number of its own steps, whatever the
 -- others do.
-use Rattle.std.specs.Prelude.{ℕ, suc, ◌<◌, ◌&&◌, not, ◌==◌, if◌then◌else◌, List, [], ◌∷◌}
+use Rattle.std.specs.Prelude.{ℕ, suc, ◌<◌, ◌&&◌, not, ◌==◌, if◌then◌else◌, List, [], ◌∷◌, Option, Some}
 use Rattle.rmecore.specs.Paid.{is_glance}
-use Rattle.rmecore.specs.Place.{Event, Steps, Place, Reread, Opening, Door, Shutting, Leaving, Unmarking}
+use Rattle.rmecore.specs.Named.{own_call, lock_part}
+use Rattle.rmecore.specs.Place.{Event, Steps, Place, Reread, Wait}
 use Rattle.rmecore.specs.World.{World, Run}
+use Rattle.rmecore.specs.declared.core_call.CoreCall.{CoreCall}
 use Rattle.rmecore.specs.declared.core_call.CoreCall.TheVariants.{Lock, Recover, Unlock}
 use Rattle.progress.specs.Bypass.{Throughout}
 
@@ -13,14 +15,23 @@ steps_of p [] = 0
 steps_of p (Steps q kind word v ∷ es) = if (q == p) && not (is_glance kind) then suc (steps_of p es) else steps_of p es
 steps_of p (e ∷ es) = steps_of p es
 
+-- the lock's part of this call ("Named")
+abbrev pub IsLockPart : Option CoreCall → Type 0
+IsLockPart (Some Lock) = Unit {0}
+IsLockPart _ = ⊥
+
+abbrev pub IsUnlockPart : Option CoreCall → Type 0
+IsUnlockPart (Some Unlock) = Unit {0}
+IsUnlockPart _ = ⊥
+
+abbrev pub IsRecoverPart : Option CoreCall → Type 0
+IsRecoverPart (Some Recover) = Unit {0}
+IsRecoverPart _ = ⊥
+
 -- before the end of the doorway of a lock: its rereads, the clearing of a mark left by half an exit, the doorway and its shut
 abbrev pub IsBeforeLine : Place → Type 0
-IsBeforeLine (Reread Lock seen) = Unit {0}
-IsBeforeLine (Unmarking Lock) = Unit {0}
-IsBeforeLine Opening = Unit {0}
-IsBeforeLine (Door unread greatest) = Unit {0}
-IsBeforeLine (Shutting Lock number) = Unit {0}
-IsBeforeLine _ = ⊥
+IsBeforeLine (Wait number unpassed looked) = ⊥
+IsBeforeLine place = IsLockPart (lock_part place)
 
 -- the rereads of a lock
 abbrev pub IsRereadOfLock : Place → Type 0
@@ -29,16 +40,11 @@ IsRereadOfLock _ = ⊥
 
 -- an exit under way
 abbrev pub IsLeaving : Place → Type 0
-IsLeaving Leaving = Unit {0}
-IsLeaving (Unmarking Unlock) = Unit {0}
-IsLeaving _ = ⊥
+IsLeaving place = IsUnlockPart (lock_part place)
 
 -- a recovery under way
 abbrev pub IsRecovering : Place → Type 0
-IsRecovering (Reread Recover seen) = Unit {0}
-IsRecovering (Shutting Recover number) = Unit {0}
-IsRecovering (Unmarking Recover) = Unit {0}
-IsRecovering _ = ⊥
+IsRecovering place = IsRecoverPart (own_call place)
 
 -- p, which begins this part of a call, leaves it by its own step with this number at the latest
 abbrev pub LeavesWithin : ℕ → (Place → Type 0) → ℕ → ℕ → World → ℕ → Type 0

@@ -4,8 +4,11 @@ use Rattle.table_runs.proofs.Common.{cases_Bool, Kind, Look as Looks, Weigh as W
 use Rattle.table_runs.proofs.Common.{Choosing as ChoosingOf, Number as NumberOf, answer, is_blocked, again, recovery_answer, is_glance, Place, Rest, Wait, Inside, Reread, Opening, Door, Shutting, Leaving}
 use Rattle.table_runs.proofs.Common.{Withdrawing, Unmarking, is_before, next, without, others, lock_restart, recovery_restart, guard, Answer, NumbersSpent, NotRecoverable, Unlocked, Call, Lock, Unlock, Recover}
 use Rattle.table_runs.proofs.Common.{Withdraw, by_lock, is_entry, ProcessState, under_place, IsAnswerOf, Leaves}
+use Rattle.table_runs.specs.Under.{is_part_of}
 use Rattle.rmecore.specs.Place.{has}
 use Rattle.rmecore.specs.Refused.{is_idle as is_idle_place}
+use Rattle.rmecore.specs.Named.{own_call, lock_part}
+use Rattle.rmecore.specs.declared.core_call.CoreCall.{CoreCall}
 use Rattle.rmecore.specs.declared.core_call.CoreCall.TheVariants as core
 use Rattle.rmecore.specs.declared.kind.Kind.TheVariants.{Reread as Rereads}
 use Rattle.rmecore.specs.declared.word.Word.TheVariants.{Inside as InsideOf}
@@ -55,6 +58,8 @@ module _ (n limit p : ℕ) where
   lock_out Leaving Drops (NumberOf q) v u some moves = guard _ (Unmarking core.Unlock) _ (LockTo Lock true Leaving None) some (λ e. inr (refl, refl, refl))
   lock_out (Unmarking core.Unlock) Marks (InsideOf q) v u some moves = guard _ Rest _ (LockTo Lock true (Unmarking core.Unlock) (Some NotRecoverable)) some (λ e. (tt, λ t is. is))
   lock_out s Glances word v u some moves = absurd (cc)
+  lock_out (Reread core.Recover seen) kind word v u some moves = absurd (cc)
+  lock_out (Shutting core.Recover k) kind word v u some moves = absurd (cc)
   lock_out _ _ _ v u some moves = absurd (cc)
 
   recovers : (s : Place) (kind : Kind) (word : Word) (v : ℕ) → under_place Recover false s ≡ true → IsSome (next n limit p s kind word v) → is_glance kind ≡ false → LockTo Recover false s (by_lock false (answer s kind v)) (unwrap_or (next n limit p s kind word v) s)
@@ -71,11 +76,16 @@ module _ (n limit p : ℕ) where
   unlocks Leaving Drops (NumberOf q) v u some moves = guard _ (Unmarking core.Unlock) _ (LockTo Unlock false Leaving None) some (λ e. inr (refl, refl, refl))
   unlocks (Unmarking core.Unlock) Marks (InsideOf q) v u some moves = guard _ Rest _ (LockTo Unlock false (Unmarking core.Unlock) (Some Unlocked)) some (λ e. (tt, λ t is. is))
   unlocks s Glances word v u some moves = absurd (cc)
+  unlocks (Reread core.Recover seen) kind word v u some moves = absurd (cc)
+  unlocks (Shutting core.Recover k) kind word v u some moves = absurd (cc)
   unlocks _ _ _ v u some moves = absurd (cc)
 
   withdraws : (s : Place) (kind : Kind) (word : Word) (v : ℕ) → under_place Withdraw false s ≡ true → IsSome (next n limit p s kind word v) → is_glance kind ≡ false → LockTo Withdraw false s (by_lock false (answer s kind v)) (unwrap_or (next n limit p s kind word v) s)
   withdraws Withdrawing Drops (NumberOf q) v u some moves = (tt, λ t is. tt)
   withdraws s Glances word v u some moves = absurd (cc)
+  withdraws (Reread core.Recover seen) kind word v u some moves = absurd (cc)
+  withdraws (Shutting core.Recover k) kind word v u some moves = absurd (cc)
+  withdraws (Unmarking core.Recover) kind word v u some moves = absurd (cc)
   withdraws _ _ _ v u some moves = absurd (cc)
 
   pub lock_to : (call : Call) (c : Bool) (s : Place) (kind : Kind) (word : Word) (v : ℕ) → under_place call c s ≡ true → IsSome (next n limit p s kind word v) → is_glance kind ≡ false → LockTo call c s (by_lock c (answer s kind v)) (unwrap_or (next n limit p s kind word v) s)
@@ -91,16 +101,12 @@ module _ (n limit p : ℕ) where
   blocked_in (Wait k unpassed (Some j)) Weighs v b = refl
   blocked_in _ _ v b = absurd (cc)
 
-  only_lock : (call : Call) (c : Bool) (s : Place) → under_place Lock false s ≡ true → under_place call c s ≡ true → call ≡ Lock
-  only_lock Lock c s a u = refl
-  only_lock Recover false (Reread core.Recover seen) a u = absurd (cc)
-  only_lock Recover false (Shutting core.Recover k) a u = absurd (cc)
-  only_lock Recover false (Unmarking core.Recover) a u = absurd (cc)
-  only_lock Unlock false Leaving a u = absurd (cc)
-  only_lock Unlock false (Unmarking core.Unlock) a u = absurd (cc)
-  only_lock Withdraw false Withdrawing a u = absurd (cc)
-  only_lock _ _ _ a u = absurd (cc)
+  only_lock : (call : Call) (c : Bool) (part own : Option CoreCall) → is_part_of Lock false part own ≡ true → is_part_of call c part own ≡ true → call ≡ Lock
+  only_lock Lock c part own a u = refl
+  only_lock _ true (Some core.Lock) own a u = absurd (cc)
+  only_lock _ false (Some core.Lock) own a u = absurd (cc)
+  only_lock _ _ _ _ a u = absurd (cc)
 
   -- no call but a lock is blocked
   pub blocked_lock : (call : Call) (c : Bool) (s : Place) (kind : Kind) (v : ℕ) → under_place call c s ≡ true → is_blocked p s kind v ≡ true → call ≡ Lock
-  blocked_lock call c s kind v u b = only_lock call c s (blocked_in s kind v b) u
+  blocked_lock call c s kind v u b = only_lock call c (lock_part s) (own_call s) (blocked_in s kind v b) u

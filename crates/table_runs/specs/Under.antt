@@ -1,6 +1,8 @@
 -- Which call is under way, from the process state alone, and which answers that call can have.
-use Rattle.std.specs.Prelude.{◌≡◌, ℕ, Bool, true, false, ◌≢◌}
-use Rattle.rmecore.specs.Place.{Place, Rest, Reread, Opening, Door, Shutting, Wait, Inside, Leaving, Withdrawing, Unmarking}
+use Rattle.std.specs.Prelude.{◌≡◌, ℕ, Bool, true, false, ◌≢◌, Option, Some}
+use Rattle.rmecore.specs.Place.{Place, Rest, Inside}
+use Rattle.rmecore.specs.Named.{own_call, lock_part}
+use Rattle.rmecore.specs.declared.core_call.CoreCall.{CoreCall}
 use Rattle.rmecore.specs.declared.core_call.CoreCall.TheVariants as core
 use Rattle.redomail.specs.declared.reply.Reply.{Reply}
 use Rattle.redomail.specs.declared.reply.Reply.TheVariants.{Stored, Already, OutOfOrder, Full, Closed, Mended, Ruined, Word}
@@ -15,23 +17,19 @@ use Rattle.rmeworld.specs.Refused.{is_idle}
 use Rattle.rmeworld.specs.ProcessState.{ScriptState, Free, Doing, ProcessState}
 use Rattle.table_runs.specs.StepBounds.{Lasts}
 
--- a place of the lock's part of a call. A lock that found the lock ruined is on its way out
+-- The lock's part, and the call that the place names, belong to the call ("Named"). A lock that found the lock ruined is on
+-- its way out. An exit goes on without a call of its own, and a recovery never does
+abbrev pub is_part_of : Call → Bool → Option CoreCall → Option CoreCall → Bool
+is_part_of Lock false (Some core.Lock) own = true
+is_part_of Lock true (Some core.Unlock) own = true
+is_part_of Recover false (Some core.Recover) (Some core.Recover) = true
+is_part_of Unlock false (Some core.Unlock) own = true
+is_part_of Withdraw false (Some core.Withdraw) own = true
+is_part_of _ _ _ _ = false
+
+-- a place of the lock's part of a call
 abbrev pub under_place : Call → Bool → Place → Bool
-under_place Lock false (Reread core.Lock seen) = true
-under_place Lock false Opening = true
-under_place Lock false (Door unread m) = true
-under_place Lock false (Shutting core.Lock k) = true
-under_place Lock false (Wait k unpassed looked) = true
-under_place Lock false (Unmarking core.Lock) = true
-under_place Lock true Leaving = true
-under_place Lock true (Unmarking core.Unlock) = true
-under_place Recover false (Reread core.Recover seen) = true
-under_place Recover false (Shutting core.Recover k) = true
-under_place Recover false (Unmarking core.Recover) = true
-under_place Unlock false Leaving = true
-under_place Unlock false (Unmarking core.Unlock) = true
-under_place Withdraw false Withdrawing = true
-under_place _ _ _ = false
+under_place call c s = is_part_of call c (lock_part s) (own_call s)
 
 -- P holds of each reply of a script
 abbrev pub AllReplies : (Reply → Type 0) → Script Reply → Type 0

@@ -1,7 +1,7 @@
 -- How a hunt on an algorithm ends that has found nothing.
 use Rattle.std.proofs.Common.{◌≡◌, ◌⊎◌, ◌↔◌, ℕ, ◌+◌, ◌<◌, ◌≤◌, Bool, true, false, Option, Some, None, IfSome, Result, Err, IsErrOf, inl, inr, refl, sym, subst, arith}
 use Rattle.algorithms.specs.Worlds.{new_refusal}
-use Rattle.algorithms.specs.declared.algorithm.Algorithm.{Algorithm}
+use Rattle.algorithms.specs.declared.first_values.InitializedAlgorithm.{InitializedAlgorithm}
 use Rattle.algorithms.specs.declared.refusal.AlgorithmRefusal.{AlgorithmRefusal}
 use Rattle.algorithm_explorer.specs.declared.hunt_fault.AlgorithmHuntFault.{AlgorithmHuntFault}
 use Rattle.algorithm_explorer.specs.declared.hunt_fault.AlgorithmHuntFault.TheVariants.{BadRounds, BadSteps, Refused, OutOfMemory}
@@ -24,7 +24,7 @@ no_world None e some none = cc
 no_world (Some x) e some none = cc
 
 -- the hunt has found nothing, and why not
-pub not_hunted : {A : Type 0} (a : Algorithm) (args : AlgorithmHuntArgs) (now : Tape) (found : Result A AlgorithmHuntFault) (fault : AlgorithmHuntFault)
+pub not_hunted : {A : Type 0} (a : InitializedAlgorithm) (args : AlgorithmHuntArgs) (now : Tape) (found : Result A AlgorithmHuntFault) (fault : AlgorithmHuntFault)
     → found ≡ Err fault → (IsErrOf found BadRounds ↔ ((args.rounds ≡ 0) ⊎ (10000 < args.first_round + args.rounds)))
     → (IsErrOf found BadSteps ↔ ((0 < args.rounds) × (args.first_round + args.rounds ≤ 10000) × ((args.steps ≡ 0) ⊎ (10000 < args.steps))))
     → ((e : AlgorithmRefusal) → IsErrOf found (Refused e) → new_refusal a args.procs args.limit ≡ Some e)
@@ -38,19 +38,19 @@ not_hunted a args now found (Refused e) is rounds steps refused =
 not_hunted a args now found OutOfMemory is rounds steps refused = inr (inr (inr (refl, record { taken = refl; fine = refl })))
 
 -- nothing is written only where nothing is found
-pub nothing_found : (shrink : Bool) (a : Algorithm) (answer : Option Scheduled) → IsWrittenFor shrink a answer None → None ≡ answer
+pub nothing_found : (shrink : Bool) (a : InitializedAlgorithm) (answer : Option Scheduled) → IsWrittenFor shrink a answer None → None ≡ answer
 nothing_found false a answer is = is
 nothing_found true a None is = is
 nothing_found true a (Some found) is = absurd is
 
 -- a schedule that is found, for which this one is written
-pub record IsFoundFor (args : AlgorithmHuntArgs) (a : Algorithm) (answer : Option Scheduled) (written : Scheduled) : Type 0 where
+pub record IsFoundFor (args : AlgorithmHuntArgs) (a : InitializedAlgorithm) (answer : Option Scheduled) (written : Scheduled) : Type 0 where
   pub schedule : Scheduled
   pub found : IsFoundByHunt a args.procs args.limit args.steps schedule
   pub exact : Some schedule ≡ answer
   pub of_it : IsWrittenFor args.shrink a (Some schedule) (Some written)
 
-some_answer : (args : AlgorithmHuntArgs) (shrink : Bool) (a : Algorithm) (answer : Option Scheduled) (written : Scheduled) → args.shrink ≡ shrink → IsWrittenFor shrink a answer (Some written)
+some_answer : (args : AlgorithmHuntArgs) (shrink : Bool) (a : InitializedAlgorithm) (answer : Option Scheduled) (written : Scheduled) → args.shrink ≡ shrink → IsWrittenFor shrink a answer (Some written)
     → IfSome answer (IsFoundByHunt a args.procs args.limit args.steps) → IsFoundFor args a answer written
 some_answer args false a answer written asked is found = record {
   schedule = written;
@@ -66,6 +66,6 @@ some_answer args true a (Some schedule) written asked is found = record {
   of_it = subst (λ b. IsWrittenFor b a (Some schedule) (Some written)) (sym asked) is;
 }
 
-pub something_found : (args : AlgorithmHuntArgs) (a : Algorithm) (answer : Option Scheduled) (written : Scheduled) → IsWrittenFor args.shrink a answer (Some written)
+pub something_found : (args : AlgorithmHuntArgs) (a : InitializedAlgorithm) (answer : Option Scheduled) (written : Scheduled) → IsWrittenFor args.shrink a answer (Some written)
     → IfSome answer (IsFoundByHunt a args.procs args.limit args.steps) → IsFoundFor args a answer written
 something_found args a answer written is found = some_answer args args.shrink a answer written refl is found

@@ -1,7 +1,7 @@
 -- A session on an algorithm whose text is at fault, or was read.
 use Rattle.std.proofs.Common.{◌≡◌, ◌⊎◌, ◌∙◌, List, [], ℕ, Option, Some, None, Result, Ok, Err, IfOk, ap, refl, inl, inr}
 use Rattle.algorithms.specs.Ranked.{LocalLinesEnd, AccessesLeadOn}
-use Rattle.algorithms.specs.declared.algorithm.Algorithm.{Algorithm}
+use Rattle.algorithms.specs.declared.first_values.InitializedAlgorithm.{InitializedAlgorithm}
 use Rattle.algorithms.specs.declared.refusal.AlgorithmRefusal.{AlgorithmRefusal}
 use Rattle.algorithm_lab.specs.Monitors.{MonitorState, first_monitor}
 use Rattle.algorithm_lab.specs.Replays.{run_unless, world_fault}
@@ -28,9 +28,9 @@ pub no_session : {B : Type 0} (file : Option (List ℕ)) (old : Reading) (used :
 no_session file old used tape fault is = inl ((record { taken = refl; fine = refl }, (fault, refl, is)), refl, refl)
 
 -- it was read
-pub session_held : (file start : Option (List ℕ)) (before now : Devices) (end : Result Ending CommandFault) (a : Algorithm)
-    → SpellsAlgorithm (text_of file) a → LocalLinesEnd a → AccessesLeadOn a → AlgorithmSessionEnds a start before now end
-    → RefusesText file before now end ⊎ HoldsOfAlgorithm file (λ (algorithm : Algorithm). AlgorithmSessionEnds algorithm start before now end)
+pub session_held : (file start : Option (List ℕ)) (before now : Devices) (end : Result Ending CommandFault) (a : InitializedAlgorithm)
+    → SpellsAlgorithm (text_of file) a → LocalLinesEnd a.algorithm → AccessesLeadOn a.algorithm → AlgorithmSessionEnds a start before now end
+    → RefusesText file before now end ⊎ HoldsOfAlgorithm file (λ (algorithm : InitializedAlgorithm). AlgorithmSessionEnds algorithm start before now end)
 session_held file start before now end a spells ends leads holds = inr (record { algorithm = a; spells = spells; ends = ends; leads = leads; holds = holds })
 
 -- there is no world of the schedule's sizes
@@ -39,7 +39,7 @@ no_world None m lines fault is = inl is
 no_world (Some e) m lines fault is = inr (1, Refused e, refl, is)
 
 -- a session over a monitor that has played the schedule begins as over a new one
-pub session_begins : (a : Algorithm) (schedule : Scheduled) (m : MonitorState) (r : Result MonitorState CommandFault) → m ≡ first_monitor a schedule.procs schedule.limit
+pub session_begins : (a : InitializedAlgorithm) (schedule : Scheduled) (m : MonitorState) (r : Result MonitorState CommandFault) → m ≡ first_monitor a schedule.procs schedule.limit
     → IfOk r (λ left. left ≡ (run_on 2 m schedule.lines).left) → IfOk r (λ left. at_schedule algorithm_semantics left schedule [] ≡ algorithm_session a schedule)
 session_begins a schedule m (Err fault) made is = tt
 session_begins a schedule m (Ok left) made is =

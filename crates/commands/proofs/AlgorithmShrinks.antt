@@ -1,6 +1,6 @@
 -- How shrinking on an algorithm ends, from what it has answered.
 use Rattle.std.proofs.Common.{Option, Result, Err, inl, inr, refl}
-use Rattle.algorithms.specs.declared.algorithm.Algorithm.{Algorithm}
+use Rattle.algorithms.specs.declared.first_values.InitializedAlgorithm.{InitializedAlgorithm}
 use Rattle.algorithm_explorer.specs.Shrunk.{IsAlgorithmReason, MinimizesAlgorithm}
 use Rattle.algorithm_lab.specs.declared.replay_fault.AlgorithmReplayFault.{AlgorithmReplayFault}
 use Rattle.algorithm_lab.specs.declared.replay_fault.AlgorithmReplayFault.TheVariants.{Refused, Write, OutOfMemory}
@@ -14,12 +14,12 @@ use Rattle.commands.specs.Endings.{Prints}
 use Rattle.commands.specs.Shrinks.{shrunk_text, shrunk_status}
 
 -- what shrinking answers was written
-pub shrunk_reported : (a : Algorithm) (schedule : Scheduled) (answer : Option Scheduled) (before now : Tape) (end : Result Ending CommandFault) → MinimizesAlgorithm a schedule answer
+pub shrunk_reported : (a : InitializedAlgorithm) (schedule : Scheduled) (answer : Option Scheduled) (before now : Tape) (end : Result Ending CommandFault) → MinimizesAlgorithm a schedule answer
     → Prints (shrunk_status answer) (shrunk_text answer) before now end → ShrinksAlgorithm a schedule before now end
 shrunk_reported a schedule answer before now end shrinks prints = inl (record { answer = answer; shrinks = shrinks; prints = prints })
 
 -- why it answers nothing
-pub not_shrunk : (a : Algorithm) (schedule : Scheduled) (now : Tape) (fault : AlgorithmReplayFault) → IsAlgorithmReason a schedule fault
+pub not_shrunk : (a : InitializedAlgorithm) (schedule : Scheduled) (now : Tape) (fault : AlgorithmReplayFault) → IsAlgorithmReason a schedule fault
     → ShrinksAlgorithm a schedule now now (Err (fault_of_run fault))
 not_shrunk a schedule now (Refused line refusal) reason =
     inr (inl (record { line = line; refusal = refusal; refused = reason; fault = refl; silent = record { taken = refl; fine = refl } }))

@@ -1,10 +1,10 @@
 -- How a command ends that reads an algorithm, from what was read.
 use Rattle.std.proofs.Common.{◌≡◌, ◌≤◌, ◌⊎◌, ℕ, List, Option, Result, Ok, Err, Some, refl, inl, inr}
 use Rattle.algorithms.specs.Ranked.{LocalLinesEnd, AccessesLeadOn}
-use Rattle.algorithms.specs.declared.algorithm.Algorithm.{Algorithm}
 use Rattle.algorithms.specs.declared.fault.AlgorithmFault.{AlgorithmFault}
 use Rattle.algorithms.specs.declared.fault.AlgorithmFault.TheVariants as of_reading
 use Rattle.algorithms.specs.declared.fault.ReadFault.{ReadFault}
+use Rattle.algorithms.specs.declared.first_values.InitializedAlgorithm.{InitializedAlgorithm}
 use Rattle.algorithm_texts.specs.Programs.{SpellsAlgorithm}
 use Rattle.algorithm_texts.specs.TextLines.{IsRefusalOf}
 use Rattle.cli.specs.Names.{number_of_algorithm_fault}
@@ -25,7 +25,7 @@ pub tells_fault : (line number : ℕ) (of_text : ReadFault) → ((1 ≤ number) 
 tells_fault line number of_text numbered = (of_text, refl, numbered)
 
 -- what tells a fault of a text names it, or is out of memory
-pub is_algorithm_fault : (file : Option (List ℕ)) (fault : AlgorithmFault) (reports : CommandFault) → IsRefusalOf fault ((a : Algorithm) × SpellsAlgorithm (text_of file) a)
+pub is_algorithm_fault : (file : Option (List ℕ)) (fault : AlgorithmFault) (reports : CommandFault) → IsRefusalOf fault ((a : InitializedAlgorithm) × SpellsAlgorithm (text_of file) a)
     → TellsFault fault reports → IsAlgorithmFault file reports
 is_algorithm_fault file (of_reading.At line number) reports (inl memory) tells = absurd (cc)
 is_algorithm_fault file (of_reading.At line number) reports (inr none) tells = inr (line, tells.0, tells.1, λ a spells. none (a, spells))
@@ -37,8 +37,8 @@ pub no_algorithm_alone : {B : Type 0} (file : Option (List ℕ)) (now : Tape) (f
 no_algorithm_alone file now fault is = inl (record { taken = refl; fine = refl }, (fault, refl, is))
 
 -- it was read
-pub algorithm_read : (file : Option (List ℕ)) (Holds : Algorithm → Type 0) (before now : Tape) (end : Result Ending CommandFault) (a : Algorithm)
-    → SpellsAlgorithm (text_of file) a → LocalLinesEnd a → AccessesLeadOn a → Holds a → EndsOnAlgorithm file Holds before now end
+pub algorithm_read : (file : Option (List ℕ)) (Holds : InitializedAlgorithm → Type 0) (before now : Tape) (end : Result Ending CommandFault) (a : InitializedAlgorithm)
+    → SpellsAlgorithm (text_of file) a → LocalLinesEnd a.algorithm → AccessesLeadOn a.algorithm → Holds a → EndsOnAlgorithm file Holds before now end
 algorithm_read file Holds before now end a spells ends leads holds = inr (record { algorithm = a; spells = spells; ends = ends; leads = leads; holds = holds })
 
 -- the algorithm's text is at fault: nothing was read or written
@@ -56,8 +56,8 @@ fine_reads old new (Ok ending) fine = fine
 fine_reads old new (Err fault) fine = inl fine
 
 -- both were read
-pub both_read : (file : Option (List ℕ)) (Holds : Algorithm → Scheduled → Type 0) (old new : Reading) (before now : Tape) (end : Result Ending CommandFault)
-    (a : Algorithm) (schedule : Scheduled) (text : List ℕ) → SpellsAlgorithm (text_of file) a → LocalLinesEnd a → AccessesLeadOn a → WasRead old new text
+pub both_read : (file : Option (List ℕ)) (Holds : InitializedAlgorithm → Scheduled → Type 0) (old new : Reading) (before now : Tape) (end : Result Ending CommandFault)
+    (a : InitializedAlgorithm) (schedule : Scheduled) (text : List ℕ) → SpellsAlgorithm (text_of file) a → LocalLinesEnd a.algorithm → AccessesLeadOn a.algorithm → WasRead old new text
     → schedule_at text ≡ Ok schedule → Holds a schedule → EndsOnBoth file Holds old new before now end
 both_read file Holds old new before now end a schedule text spells ends leads read spelled holds = (
   inr (record {

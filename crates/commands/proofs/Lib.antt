@@ -10,6 +10,7 @@ pub mod AlgorithmTexts
 pub mod Draws
 pub mod Replays
 pub mod ReportObjects
+pub mod SetBlocks
 pub mod StateSets
 pub mod StateTexts
 pub mod StatesEnds

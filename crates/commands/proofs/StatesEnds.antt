@@ -1,6 +1,6 @@
 -- How `states` ends, by its arguments.
 use Rattle.std.proofs.Common.{◌≡◌, ◌≤◌, ℕ, ◌+◌, ◌^◌, List, Bool, Result, sym, inl, inr, subst, arith, le-mul_of_pos_right}
-use Rattle.algorithms.specs.declared.algorithm.Algorithm.{Algorithm}
+use Rattle.algorithms.specs.declared.first_values.InitializedAlgorithm.{InitializedAlgorithm}
 use Rattle.algorithm_explorer.specs.SearchStateWords as algorithm_words
 use Rattle.algorithm_explorer.specs.Spaces.{AlgorithmSearchState, rules}
 use Rattle.crashlab.specs.space.Numbered.{numbered_rules}
@@ -43,7 +43,7 @@ lines_are args start machine form start_is machine_is words_are digits_are = λ 
 }
 
 -- the lines of an algorithm's states
-pub algorithm_lines_are : (algorithm : Algorithm) (text : List ℕ) (args : AlgorithmStatesArgs) (live : List (List Bool)) (start : AlgorithmSearchState) (machine : List ℕ) (form : KeyForm)
+pub algorithm_lines_are : (algorithm : InitializedAlgorithm) (text : List ℕ) (args : AlgorithmStatesArgs) (live : List (List Bool)) (start : AlgorithmSearchState) (machine : List ℕ) (form : KeyForm)
     → AreAlgorithmLines algorithm text args live start machine form → lines_of (rules algorithm_words.search_state_words) algorithm_words.AreBeside start machine form ≡ algorithm_lines algorithm text args live
 algorithm_lines_are algorithm text args live start machine form are = λ i. record {
   rules = rules algorithm_words.search_state_words;

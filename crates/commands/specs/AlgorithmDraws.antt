@@ -1,6 +1,6 @@
 -- How drawing a schedule's run on an algorithm's text ends.
 use Rattle.std.specs.Prelude.{◌≡◌, ℕ, Bool, true, false, List, Option, Result}
-use Rattle.algorithms.specs.declared.algorithm.Algorithm.{Algorithm}
+use Rattle.algorithms.specs.declared.first_values.InitializedAlgorithm.{InitializedAlgorithm}
 use Rattle.algorithm_explorer.specs.Shrunk.{schedule_run}
 use Rattle.algorithm_lab.specs.Replays.{WritesRunText}
 use Rattle.algorithm_lab.specs.declared.replay_fault.AlgorithmReplayFault.{AlgorithmReplayFault}
@@ -19,14 +19,14 @@ use Rattle.commands.specs.Draws.{style_of}
 use Rattle.commands.specs.Statuses.{outcome}
 
 -- the drawing of the schedule's run on this algorithm, or its page, was written, and the verdict answered; or the reason why not
-abbrev pub WritesDrawing : Bool → Bool → Algorithm → Scheduled → Tape → Tape → Result Verdict AlgorithmReplayFault → Type 0
+abbrev pub WritesDrawing : Bool → Bool → InitializedAlgorithm → Scheduled → Tape → Tape → Result Verdict AlgorithmReplayFault → Type 0
 WritesDrawing true svg algorithm schedule before now answer =
     WritesRunText before now (text_on_new (algorithm_page (head_of schedule)) algorithm schedule) (schedule_run algorithm schedule) answer
 WritesDrawing false svg algorithm schedule before now answer =
     DrawsRun before now (drawn_text (style_of svg) (head_of schedule) algorithm schedule.lines) (schedule_run algorithm schedule) answer
 
 -- the same as a command answers it
-abbrev pub DrawsAlgorithm : AlgorithmDrawArgs → Algorithm → Scheduled → Tape → Tape → Result Ending CommandFault → Type 0
+abbrev pub DrawsAlgorithm : AlgorithmDrawArgs → InitializedAlgorithm → Scheduled → Tape → Tape → Result Ending CommandFault → Type 0
 DrawsAlgorithm args algorithm schedule before now end =
     (answer : Result Verdict AlgorithmReplayFault) × WritesDrawing args.html args.svg algorithm schedule before now answer × (outcome end ≡ outcome_of_run answer)
 

@@ -1,6 +1,6 @@
 -- How a replay on an algorithm's text ends.
 use Rattle.std.specs.Prelude.{◌≡◌, ℕ, Bool, true, false, List, [], Option, Some, None, Result, Ok, Err}
-use Rattle.algorithms.specs.declared.algorithm.Algorithm.{Algorithm}
+use Rattle.algorithms.specs.declared.first_values.InitializedAlgorithm.{InitializedAlgorithm}
 use Rattle.algorithm_lab.specs.Refusals.{number_of}
 use Rattle.algorithm_lab.specs.Monitors.{MonitorState}
 use Rattle.algorithm_lab.specs.Replays.{WritesRunText, run_of, text_of}
@@ -53,14 +53,14 @@ object_of_run m lines =
     object_unless run.refused (text_of run)
 
 -- what is written of the schedule's run on this algorithm: each step, as JSON or in words, or the report alone
-abbrev pub text_of_replay : Bool → Bool → Algorithm → Scheduled → List ℕ
+abbrev pub text_of_replay : Bool → Bool → InitializedAlgorithm → Scheduled → List ℕ
 text_of_replay true true algorithm schedule = text_on_new objects_by_steps algorithm schedule
 text_of_replay true false algorithm schedule = text_on_new report_by_steps algorithm schedule
 text_of_replay false true algorithm schedule = text_on_new object_of_run algorithm schedule
 text_of_replay false false algorithm schedule = text_of (run_of algorithm schedule.procs schedule.limit schedule.lines)
 
 -- that was written, or the command answers why not
-abbrev pub TellsAlgorithm : AlgorithmReplayArgs → Algorithm → Scheduled → Tape → Tape → Result Ending CommandFault → Type 0
+abbrev pub TellsAlgorithm : AlgorithmReplayArgs → InitializedAlgorithm → Scheduled → Tape → Tape → Result Ending CommandFault → Type 0
 TellsAlgorithm args algorithm schedule before now end =
     (answer : Result Verdict AlgorithmReplayFault)
     × WritesRunText before now (text_of_replay args.each args.json algorithm schedule) (run_of algorithm schedule.procs schedule.limit schedule.lines) answer

@@ -1,6 +1,6 @@
 -- How a session on an algorithm ends.
 use Rattle.std.specs.Prelude.{◌≡◌, ◌⊎◌, ℕ, List, Option, Some, None, Result}
-use Rattle.algorithms.specs.declared.algorithm.Algorithm.{Algorithm}
+use Rattle.algorithms.specs.declared.first_values.InitializedAlgorithm.{InitializedAlgorithm}
 use Rattle.algorithm_lab.specs.Monitors.{MonitorState}
 use Rattle.algorithm_lab.specs.Refusals.{number_of}
 use Rattle.algorithm_lab.specs.Replays.{run_of}
@@ -26,7 +26,7 @@ abbrev pub IsFaultOfRun : AlgorithmRun (ℕ × RunRefusal) → CommandFault → 
 IsFaultOfRun run fault = (fault ≡ faults.OutOfMemory) ⊎ IsRefusedRun run fault
 
 -- a session plays the schedule that it begins with
-abbrev pub algorithm_machine : Algorithm → SessionMachine MonitorState
+abbrev pub algorithm_machine : InitializedAlgorithm → SessionMachine MonitorState
 algorithm_machine a =
     record {
       semantics = algorithm_semantics;
@@ -36,7 +36,7 @@ algorithm_machine a =
     }
 
 -- how a session on this algorithm ends, which begins with the schedule of a text, or with a header
-abbrev pub AlgorithmSessionEnds : Algorithm → Option (List ℕ) → Devices → Devices → Result Ending CommandFault → Type 0
+abbrev pub AlgorithmSessionEnds : InitializedAlgorithm → Option (List ℕ) → Devices → Devices → Result Ending CommandFault → Type 0
 AlgorithmSessionEnds a start before now end = SessionEnds (algorithm_machine a) start before now end
 
 -- the algorithm's text is at fault: nothing was read, kept or written

@@ -1,6 +1,6 @@
 -- How shrinking a schedule on an algorithm's text ends.
 use Rattle.std.specs.Prelude.{◌≡◌, ◌⊎◌, ℕ, List, Option, Some, Result, Err}
-use Rattle.algorithms.specs.declared.algorithm.Algorithm.{Algorithm}
+use Rattle.algorithms.specs.declared.first_values.InitializedAlgorithm.{InitializedAlgorithm}
 use Rattle.algorithm_explorer.specs.Shrunk.{MinimizesAlgorithm, schedule_run}
 use Rattle.algorithm_lab.specs.Refusals.{number_of}
 use Rattle.algorithm_lab.specs.declared.run_refusal.RunRefusal.{RunRefusal}
@@ -15,13 +15,13 @@ use Rattle.commands.specs.Endings.{Prints, RunsOut}
 use Rattle.commands.specs.Shrinks.{shrunk_text, shrunk_status}
 
 -- what shrinking answers is written
-pub record TellsShrunk (algorithm : Algorithm) (schedule : Scheduled) (before now : Tape) (end : Result Ending CommandFault) : Type 0 where
+pub record TellsShrunk (algorithm : InitializedAlgorithm) (schedule : Scheduled) (before now : Tape) (end : Result Ending CommandFault) : Type 0 where
   pub answer : Option Scheduled
   pub shrinks : MinimizesAlgorithm algorithm schedule answer
   pub prints : Prints (shrunk_status answer) (shrunk_text answer) before now end
 
 -- the fault is the line that the run refuses, or the header, and nothing is written
-pub record TellsRefused (algorithm : Algorithm) (schedule : Scheduled) (before now : Tape) (end : Result Ending CommandFault) : Type 0 where
+pub record TellsRefused (algorithm : InitializedAlgorithm) (schedule : Scheduled) (before now : Tape) (end : Result Ending CommandFault) : Type 0 where
   pub line : ℕ
   pub refusal : RunRefusal
   pub refused : (schedule_run algorithm schedule).refused ≡ Some (line, refusal)
@@ -29,7 +29,7 @@ pub record TellsRefused (algorithm : Algorithm) (schedule : Scheduled) (before n
   pub silent : Silent before now
 
 -- the schedule is shrunk, a line of it is refused, or memory has run out before either is known
-abbrev pub ShrinksAlgorithm : Algorithm → Scheduled → Tape → Tape → Result Ending CommandFault → Type 0
+abbrev pub ShrinksAlgorithm : InitializedAlgorithm → Scheduled → Tape → Tape → Result Ending CommandFault → Type 0
 ShrinksAlgorithm algorithm schedule before now end =
     TellsShrunk algorithm schedule before now end
     ⊎ (TellsRefused algorithm schedule before now end ⊎ RunsOut before now end)

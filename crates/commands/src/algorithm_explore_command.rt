@@ -22,7 +22,7 @@ use algorithm_explorer::{
     AlgorithmBounds, AlgorithmExploreFault, AlgorithmMove, LeftOut, SearchOutcome,
     shortest_algorithm_schedule_in_parallel,
 };
-use algorithms::{Algorithm, AlgorithmCall, Entries};
+use algorithms::{AlgorithmCall, Entries, InitializedAlgorithm};
 use cli::arguments::args::{AlgorithmCalls, AlgorithmExploreArgs, Cycles};
 use rmeworld::Call as WorldCall;
 use schedule::{Count, Line, Schedule, Sink};
@@ -42,19 +42,22 @@ fn calls_had(entries: &Entries) -> AlgorithmCalls
 }
 
 /// The calls that are asked for, or else those that the text has.
-pub(crate) fn asked_calls(algorithm: &Algorithm, args: &AlgorithmExploreArgs) -> AlgorithmCalls
-    ensures { result ≡ unwrap_or args.now.calls (had_calls algorithm.now.entries) }
+pub(crate) fn asked_calls(
+    algorithm: &InitializedAlgorithm,
+    args: &AlgorithmExploreArgs,
+) -> AlgorithmCalls
+    ensures { result ≡ unwrap_or args.now.calls (had_calls algorithm.now.algorithm.entries) }
 {
     match args.calls {
         Some(asked) => asked,
-        None => calls_had(&algorithm.entries),
+        None => calls_had(&algorithm.algorithm.entries),
     }
 }
 
 /// The calls that the search starts, always in this order.
 pub(crate) fn calls_of(
     alloc: Global,
-    algorithm: &Algorithm,
+    algorithm: &InitializedAlgorithm,
     args: &AlgorithmExploreArgs,
 ) -> Result<Vec<AlgorithmCall>, AllocError>
     ensures { IfOk result (λ calls. calls.items ≡ calls_asked algorithm.now args.now) }
@@ -145,7 +148,7 @@ fn tell_all_but<W: Sink>(
 fn tell_shortest<T: Threads + Sync, S: Screen, W: Sink>(
     rt: &T,
     alloc: Global,
-    algorithm: Algorithm,
+    algorithm: InitializedAlgorithm,
     args: &AlgorithmExploreArgs,
     screen: &mut S,
     w: &mut W,

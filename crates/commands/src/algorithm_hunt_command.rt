@@ -18,7 +18,7 @@ use crate::schedules::findings::{tell_nothing, tell_schedule};
 use algorithm_explorer::{
     AlgorithmHuntFault, Watch, hunt_algorithm_in_parallel, hunt_least_algorithm_in_parallel,
 };
-use algorithms::Algorithm;
+use algorithms::InitializedAlgorithm;
 use cli::arguments::args::AlgorithmHuntArgs;
 use schedule::{Schedule, Sink};
 use std::alloc::Global;
@@ -40,7 +40,7 @@ fn hunt_fault(fault: AlgorithmHuntFault) -> CommandFault
 fn schedule_hunted<T: Threads + Sync, M: Watch>(
     rt: &T,
     alloc: Global,
-    algorithm: Algorithm,
+    algorithm: InitializedAlgorithm,
     args: &AlgorithmHuntArgs,
     watch: &mut M,
 ) -> Result<Option<Schedule>, AlgorithmHuntFault>
@@ -74,7 +74,7 @@ fn schedule_hunted<T: Threads + Sync, M: Watch>(
 fn tell_hunted<T: Threads + Sync, S: Screen, W: Sink>(
     rt: &T,
     alloc: Global,
-    algorithm: Algorithm,
+    algorithm: InitializedAlgorithm,
     args: &AlgorithmHuntArgs,
     screen: &mut S,
     w: &mut W,

@@ -16,7 +16,7 @@ use crate::starvation::{is_any, tell_never_starving, tell_starves};
 use algorithm_explorer::{
     AlgorithmExploreFault, AlgorithmMove, Lasso, StarvingOutcome, starving_algorithm_schedule,
 };
-use algorithms::Algorithm;
+use algorithms::InitializedAlgorithm;
 use cli::arguments::args::{AlgorithmExploreArgs, Cycles};
 use schedule::Sink;
 use std::alloc::Global;
@@ -42,7 +42,7 @@ fn tell_lasso<W: Sink>(
 /// Writes a schedule of fewest moves of the algorithm in which a process starves, or that there is none.
 pub(crate) fn tell_starving<S: Screen, W: Sink>(
     alloc: Global,
-    algorithm: Algorithm,
+    algorithm: InitializedAlgorithm,
     args: &AlgorithmExploreArgs,
     cycles: Cycles,
     screen: &mut S,

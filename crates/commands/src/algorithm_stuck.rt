@@ -12,7 +12,7 @@ use crate::schedules::ending::Ending;
 use crate::schedules::fault::CommandFault;
 use crate::stuck::tell_never;
 use algorithm_explorer::{AlgorithmExploreFault, StuckOutcome, stuck_algorithm_schedule};
-use algorithms::Algorithm;
+use algorithms::InitializedAlgorithm;
 use cli::arguments::args::AlgorithmExploreArgs;
 use schedule::Sink;
 use std::alloc::Global;
@@ -21,7 +21,7 @@ use std::alloc::Global;
 /// or that there is none.
 pub(crate) fn tell_stuck<S: Screen, W: Sink>(
     alloc: Global,
-    algorithm: Algorithm,
+    algorithm: InitializedAlgorithm,
     args: &AlgorithmExploreArgs,
     screen: &mut S,
     w: &mut W,

@@ -6,6 +6,7 @@ use Rattle.schedule.specs.declared.replays.replay_fault.ReplayFault.TheVariants.
 use Rattle.schedule.specs.declared.texts.head.Head.{Head}
 use Rattle.algorithms.specs.Worlds.{new_refusal}
 use Rattle.algorithms.specs.declared.algorithm.Algorithm.{Algorithm}
+use Rattle.algorithms.specs.declared.first_values.InitializedAlgorithm.{InitializedAlgorithm}
 use Rattle.algorithms.specs.declared.refusal.AlgorithmRefusal.{AlgorithmRefusal}
 use Rattle.algorithm_lab.specs.Monitors.{MonitorState, first_monitor}
 use Rattle.algorithm_lab.specs.Replays.{run_of, run_unless, world_fault}
@@ -43,7 +44,7 @@ on_world : (t u : Tape) (r : Option AlgorithmRefusal) (text : List ℕ) (m : Mon
 on_world t u r text m lines answer none h = rw none h
 
 -- there is one
-pub on_new : (t u : Tape) (style : Style) (head : Head) (a : Algorithm) (m : MonitorState) (lines : List Line) (answer : Result Verdict AlgorithmReplayFault)
+pub on_new : (t u : Tape) (style : Style) (head : Head) (a : InitializedAlgorithm) (m : MonitorState) (lines : List Line) (answer : Result Verdict AlgorithmReplayFault)
     → m ≡ first_monitor a head.procs head.limit → new_refusal a head.procs head.limit ≡ None → DrawsRun t u (run_text style head m lines) (run_on 2 m lines) answer
     → DrawsRun t u (drawn_text style head a lines) (run_of a head.procs head.limit lines) answer
 on_new t u style head a m lines answer made accepted h =
@@ -56,6 +57,6 @@ worldless t None style head m lines = run_starved t style head m lines (run_on 2
 worldless t (Some e) style head m lines = (record { taken = sym (append-nil t.taken); fine = refl }, refl)
 
 -- there is none, and nothing is drawn
-pub none_drawn : (t : Tape) (style : Style) (head : Head) (a : Algorithm) (lines : List Line) (fault : AlgorithmReplayFault) → fault ≡ world_fault (new_refusal a head.procs head.limit)
+pub none_drawn : (t : Tape) (style : Style) (head : Head) (a : InitializedAlgorithm) (lines : List Line) (fault : AlgorithmReplayFault) → fault ≡ world_fault (new_refusal a head.procs head.limit)
     → DrawsRun t t (drawn_text style head a lines) (run_of a head.procs head.limit lines) (Err fault)
 none_drawn t style head a lines fault is = rw is (worldless t (new_refusal a head.procs head.limit) style head (first_monitor a head.procs head.limit) lines)

@@ -6,6 +6,7 @@ use Rattle.diagram.proofs.RunEvents.{reports_go_on}
 use Rattle.rmecore.specs.declared.phase.Phase.{Phase}
 use Rattle.algorithms.specs.Worlds.{AlgorithmWorldState}
 use Rattle.algorithms.specs.declared.algorithm.Algorithm.{Algorithm}
+use Rattle.algorithms.specs.declared.first_values.InitializedAlgorithm.{InitializedAlgorithm}
 use Rattle.algorithms.specs.declared.process.AlgorithmProcess.{AlgorithmProcess}
 use Rattle.algorithm_lab.proofs.Restarts.{line_leaves, run_leaves}
 use Rattle.algorithm_lab.specs.Monitors.{MonitorState, first_monitor, monitor_at_beginning}
@@ -118,7 +119,7 @@ left_of_run k m (line ∷ lines) accepted =
     ap (λ (o : Option RunRefusal). lines_on algorithm_semantics.after (left_by m (line_on m line) o) lines) first.0 ∙ left_of_run (k + 1) left lines first.1 ∙ sym first.2
 
 -- a session over a monitor that has played a run begins as over a new one
-pub begins_played : (a : Algorithm) (procs limit k : ℕ) (lines : List Line) (schedule : Scheduled)
+pub begins_played : (a : InitializedAlgorithm) (procs limit k : ℕ) (lines : List Line) (schedule : Scheduled)
     → at_schedule algorithm_semantics (run_on k (first_monitor a procs limit) lines).left schedule [] ≡ at_schedule algorithm_semantics (first_monitor a procs limit) schedule []
 begins_played a procs limit k lines schedule =
     ap (λ (m : MonitorState). record { schedule = schedule; undone = []; simulation = lines_on algorithm_semantics.after m schedule.lines }) (run_leaves k (first_monitor a procs limit) lines)

@@ -11,6 +11,7 @@ use Rattle.schedule.specs.Transitions.{RunEvent}
 use Rattle.schedule.specs.declared.replays.verdict.Verdict.{Verdict}
 use Rattle.algorithms.specs.Worlds.{AlgorithmWorldState, new_refusal}
 use Rattle.algorithms.specs.declared.algorithm.Algorithm.{Algorithm}
+use Rattle.algorithms.specs.declared.first_values.InitializedAlgorithm.{InitializedAlgorithm}
 use Rattle.algorithms.specs.declared.refusal.AlgorithmRefusal.{AlgorithmRefusal}
 use Rattle.algorithm_lab.specs.Monitors.{MonitorState, first_monitor}
 use Rattle.algorithm_lab.specs.Replays.{HasEnd, WritesRunText, run_of, run_unless, world_fault}
@@ -99,7 +100,7 @@ module _ (text_of : MonitorState → List Line → List ℕ) where
   on_world r m lines before now answer none h = rw none h
 
   -- there is one: the text was made, and written
-  pub written_on_new : (a : Algorithm) (schedule : Scheduled) (m : MonitorState) (text : List ℕ) (ended : Result Verdict (ℕ × RunRefusal)) (before now : Tape)
+  pub written_on_new : (a : InitializedAlgorithm) (schedule : Scheduled) (m : MonitorState) (text : List ℕ) (ended : Result Verdict (ℕ × RunRefusal)) (before now : Tape)
       (answer : Result Verdict AlgorithmReplayFault) → m ≡ first_monitor a schedule.procs schedule.limit → new_refusal a schedule.procs schedule.limit ≡ None
       → IsRunText text_of m schedule.lines text ended → ((run : AlgorithmRun (ℕ × RunRefusal)) → HasEnd run ended → WritesRunText before now text run answer)
       → WritesRunText before now (text_on_new text_of a schedule) (run_of a schedule.procs schedule.limit schedule.lines) answer
@@ -114,7 +115,7 @@ module _ (text_of : MonitorState → List Line → List ℕ) where
   worldless (Some e) m lines t = (record { taken = sym (append-nil t.taken); fine = refl }, refl)
 
   -- there is none, and nothing is written
-  pub none_written : (a : Algorithm) (schedule : Scheduled) (t : Tape) (fault : AlgorithmReplayFault) → fault ≡ world_fault (new_refusal a schedule.procs schedule.limit)
+  pub none_written : (a : InitializedAlgorithm) (schedule : Scheduled) (t : Tape) (fault : AlgorithmReplayFault) → fault ≡ world_fault (new_refusal a schedule.procs schedule.limit)
       → WritesRunText t t (text_on_new text_of a schedule) (run_of a schedule.procs schedule.limit schedule.lines) (Err fault)
   none_written a schedule t fault is =
       rw is (worldless (new_refusal a schedule.procs schedule.limit) (first_monitor a schedule.procs schedule.limit) schedule.lines t)

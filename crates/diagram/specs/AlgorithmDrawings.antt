@@ -8,6 +8,7 @@ use Rattle.schedule.specs.declared.replays.verdict.Verdict.{Verdict}
 use Rattle.schedule.specs.declared.texts.head.Head.{Head}
 use Rattle.algorithms.specs.Worlds.{new_refusal}
 use Rattle.algorithms.specs.declared.algorithm.Algorithm.{Algorithm}
+use Rattle.algorithms.specs.declared.first_values.InitializedAlgorithm.{InitializedAlgorithm}
 use Rattle.algorithms.specs.declared.refusal.AlgorithmRefusal.{AlgorithmRefusal}
 use Rattle.algorithm_lab.specs.Monitors.{MonitorState, first_monitor}
 use Rattle.algorithm_lab.specs.Refusals.{number_of}
@@ -56,7 +57,7 @@ text_unless None text = text
 text_unless (Some e) text = []
 
 -- the drawing of the run of these lines on a new world of the algorithm
-abbrev pub drawn_text : Style → Head → Algorithm → List Line → List ℕ
+abbrev pub drawn_text : Style → Head → InitializedAlgorithm → List Line → List ℕ
 drawn_text style head a lines =
     text_unless (new_refusal a head.procs head.limit) (run_text style head (first_monitor a head.procs head.limit) lines)
 

@@ -7,6 +7,7 @@ use Rattle.schedule.specs.declared.player.play_stop.PlayStop.{PlayStop}
 use Rattle.schedule.specs.declared.player.play_stop.PlayStop.TheVariants.{Refused}
 use Rattle.schedule.specs.declared.texts.fault.OutOfMemory.{OutOfMemory}
 use Rattle.algorithms.specs.declared.algorithm.Algorithm.{Algorithm}
+use Rattle.algorithms.specs.declared.first_values.InitializedAlgorithm.{InitializedAlgorithm}
 use Rattle.algorithm_lab.proofs.Restarts.{line_leaves}
 use Rattle.algorithm_lab.specs.Monitors.{MonitorState, first_monitor, monitor_at_beginning}
 use Rattle.algorithm_lab.specs.Refusals.{number_of}
@@ -85,7 +86,7 @@ algorithm_semantics =
     }
 
 -- a session over an algorithm at a schedule
-abbrev pub algorithm_session : Algorithm → Scheduled → SessionState MonitorState
+abbrev pub algorithm_session : InitializedAlgorithm → Scheduled → SessionState MonitorState
 algorithm_session a schedule = at_schedule algorithm_semantics (first_monitor a schedule.procs schedule.limit) schedule []
 
 -- ---- a schedule begins in the same state whatever was played before

@@ -9,6 +9,7 @@ use Rattle.algorithms.specs.Worlds.{AlgorithmWorldState, new_refusal}
 use Rattle.algorithms.specs.declared.access.WordAccess.{WordAccess}
 use Rattle.algorithms.specs.declared.algorithm.Algorithm.{Algorithm}
 use Rattle.algorithms.specs.declared.algorithm.Declaration.{Declaration}
+use Rattle.algorithms.specs.declared.first_values.InitializedAlgorithm.{InitializedAlgorithm}
 use Rattle.algorithm_lab.specs.Monitors.{MonitorState, first_monitor}
 use Rattle.algorithm_lab.specs.Replays.{HasEnd}
 use Rattle.algorithm_lab.specs.Reports.{line_of_report, report_end, verdict_of, words_used}
@@ -159,6 +160,6 @@ abbrev pub IsRunText : (MonitorState → List Line → List ℕ) → MonitorStat
 IsRunText text_of m lines text ended = (text ≡ text_of m lines) × HasEnd (run_on 2 m lines) ended
 
 -- a text of a run on a new world of the algorithm; where there is no world of the schedule's sizes it is empty
-abbrev pub text_on_new : (MonitorState → List Line → List ℕ) → Algorithm → Scheduled → List ℕ
+abbrev pub text_on_new : (MonitorState → List Line → List ℕ) → InitializedAlgorithm → Scheduled → List ℕ
 text_on_new text_of a schedule =
     text_unless (new_refusal a schedule.procs schedule.limit) (text_of (first_monitor a schedule.procs schedule.limit) schedule.lines)

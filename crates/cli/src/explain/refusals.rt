@@ -8,7 +8,7 @@ use crate::explain::meaning::Meaning;
 use rmecore::Refusal;
 
 const BAD_PROCS: &str =
-    "The number of processes is not 1 to 64, or the algorithm is for another number. The first line has it as `procs`.";
+    "The number of processes is not 1 to 64, or the algorithm has no world of it. The first line has it as `procs`.";
 
 const BAD_LIMIT: &str =
     "The limit of the lock's numbers is not 1 to 4611686018427387904. The first line has it as `limit`.";

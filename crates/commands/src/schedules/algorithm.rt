@@ -16,7 +16,7 @@ use crate::schedules::json::report_object;
 use crate::schedules::play_start::schedule_read;
 use algorithm_lab::{AlgorithmReplayFault, Monitor, ReplayText, replay_algorithm, report_of_run};
 use algorithm_texts::read_algorithm;
-use algorithms::{Algorithm, AlgorithmFault};
+use algorithms::{AlgorithmFault, InitializedAlgorithm};
 use cli::arguments::args::AlgorithmReplayArgs;
 use diagram::{follow_algorithm, follow_algorithm_as_lines};
 use schedule::{Schedule, Sink, Source, Verdict};
@@ -61,10 +61,13 @@ pub(crate) fn text_of(text: Option<&[u8]>) -> &[u8]
 }
 
 /// The algorithm that the text of a file spells. A text that spells none is a fault, of its first faulty line.
-pub(crate) fn algorithm_read(alloc: Global, text: Option<&[u8]>) -> Result<Algorithm, CommandFault>
+pub(crate) fn algorithm_read(
+    alloc: Global,
+    text: Option<&[u8]>,
+) -> Result<InitializedAlgorithm, CommandFault>
     ensures spells { IfOk result (SpellsAlgorithm (text_in (option_copied text.entry))) }
-    ensures ends { IfOk result LocalLinesEnd }
-    ensures leads { IfOk result AccessesLeadOn }
+    ensures ends { IfOk result (λ a. LocalLinesEnd a.algorithm) }
+    ensures leads { IfOk result (λ a. AccessesLeadOn a.algorithm) }
     ensures unread { IfErr result (IsAlgorithmFault (option_copied text.entry)) }
 {
     match read_algorithm(alloc, text_of(text)) {
@@ -101,7 +104,7 @@ fn object_of_run(
 /// nothing.
 fn replay_object<W: Sink>(
     alloc: Global,
-    algorithm: Algorithm,
+    algorithm: InitializedAlgorithm,
     schedule: &Schedule,
     w: &mut W,
 ) -> Result<Verdict, AlgorithmReplayFault>
@@ -116,7 +119,7 @@ fn replay_object<W: Sink>(
 /// Plays the schedule on the algorithm, and writes its report, or each step, in words or as JSON.
 fn report<W: Sink>(
     alloc: Global,
-    algorithm: Algorithm,
+    algorithm: InitializedAlgorithm,
     schedule: &Schedule,
     each: bool,
     json: bool,
@@ -136,7 +139,7 @@ fn report<W: Sink>(
 /// Plays the schedule on the algorithm, and writes what is asked for.
 fn replay_on_algorithm<W: Sink>(
     alloc: Global,
-    algorithm: Algorithm,
+    algorithm: InitializedAlgorithm,
     schedule: &Schedule,
     args: &AlgorithmReplayArgs,
     w: &mut W,

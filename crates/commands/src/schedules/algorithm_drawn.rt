@@ -10,7 +10,7 @@ use crate::schedules::ending::{Ending, status_after_verdict};
 use crate::schedules::fault::CommandFault;
 use crate::schedules::play_start::schedule_read;
 use algorithm_lab::AlgorithmReplayFault;
-use algorithms::Algorithm;
+use algorithms::InitializedAlgorithm;
 use cli::arguments::args::AlgorithmDrawArgs;
 use diagram::{draw_algorithm, write_algorithm_page};
 use schedule::{Schedule, Sink, Source, Verdict};
@@ -19,7 +19,7 @@ use std::alloc::Global;
 /// Plays the schedule on the algorithm, and writes the drawing of its run, or its page.
 fn write_run<W: Sink>(
     alloc: Global,
-    algorithm: Algorithm,
+    algorithm: InitializedAlgorithm,
     schedule: &Schedule,
     html: bool,
     svg: bool,
@@ -36,7 +36,7 @@ fn write_run<W: Sink>(
 /// Plays the schedule on the algorithm, and writes what is asked for.
 fn draw_on_algorithm<W: Sink>(
     alloc: Global,
-    algorithm: Algorithm,
+    algorithm: InitializedAlgorithm,
     schedule: &Schedule,
     args: &AlgorithmDrawArgs,
     w: &mut W,

@@ -10,14 +10,14 @@ use crate::schedules::fault::CommandFault;
 use crate::schedules::findings::{tell_fine, tell_schedule};
 use crate::schedules::play_start::schedule_read;
 use algorithm_explorer::shrink_algorithm_schedule;
-use algorithms::Algorithm;
+use algorithms::InitializedAlgorithm;
 use schedule::{Schedule, Sink, Source};
 use std::alloc::Global;
 
 /// Shrinks the schedule and writes it, or writes the line of a fine verdict.
 fn shrink_on_algorithm<W: Sink>(
     alloc: Global,
-    algorithm: Algorithm,
+    algorithm: InitializedAlgorithm,
     schedule: &Schedule,
     w: &mut W,
 ) -> Result<Ending, CommandFault>

@@ -21,7 +21,7 @@ use crate::schedules::fault::CommandFault;
 use crate::sessions::conversation::converse;
 use crate::sessions::session_loop::{first_text, schedule_of, write_state};
 use algorithm_lab::{AlgorithmReplayFault, Monitor, play_lines};
-use algorithms::Algorithm;
+use algorithms::InitializedAlgorithm;
 use diagram::Session;
 use schedule::{Schedule, Sink, Source};
 use std::alloc::Global;
@@ -47,7 +47,7 @@ fn first_schedule<R: Source>(
 /// A new world of the algorithm, of the sizes of a schedule.
 fn world_of(
     alloc: Global,
-    algorithm: Algorithm,
+    algorithm: InitializedAlgorithm,
     schedule: &Schedule,
 ) -> Result<Monitor, CommandFault>
     ensures made { IfOk result (λ m. m ≡ first_monitor algorithm schedule.now.procs schedule.now.limit) }
@@ -81,7 +81,7 @@ fn play_all(
 /// A world of the algorithm for a session that begins with this schedule. None of its lines is refused.
 fn monitor_of(
     alloc: Global,
-    algorithm: Algorithm,
+    algorithm: InitializedAlgorithm,
     schedule: &Schedule,
 ) -> Result<Monitor, CommandFault>
     ensures made { IfOk result (λ m. at_schedule algorithm_semantics m schedule.now [] ≡ algorithm_session algorithm schedule.now) }
@@ -97,7 +97,7 @@ fn monitor_of(
 /// Begins a session on the algorithm, and answers each line of the input.
 fn hold_session<F: Folder, R: Source, W: Sink>(
     alloc: Global,
-    algorithm: Algorithm,
+    algorithm: InitializedAlgorithm,
     start: Option<&[u8]>,
     folder: &mut F,
     r: &mut R,

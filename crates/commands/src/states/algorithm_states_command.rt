@@ -4,7 +4,7 @@ ghost use Rattle.std.specs.Prelude.{◌≡◌, ◌⊎◌, ℕ, List, Bool, false
 ghost use Rattle.algorithms.specs.Worlds.{new_refusal};
 ghost use Rattle.algorithm_explorer.specs.Boards.{search_state_of};
 ghost use Rattle.algorithm_explorer.specs.Live.{IsLeastLive};
-ghost use Rattle.algorithms.specs.declared.algorithm.Algorithm.{Algorithm as AnyAlgorithm};
+ghost use Rattle.algorithms.specs.declared.first_values.InitializedAlgorithm.{InitializedAlgorithm as AnyAlgorithm};
 ghost use Rattle.commands.specs.AlgorithmExplores.{start_of as start_by};
 ghost use Rattle.commands.specs.Endings.{IsEnded};
 ghost use Rattle.commands.specs.States.{algorithm_run, AlgorithmStatesEnd, AlgorithmStatesLack, AreAlgorithmLines};
@@ -22,21 +22,20 @@ use crate::states::set_walk::walk_of_input;
 use crate::states::state_form::form_of;
 use crate::states::states_start::write_first;
 use algorithm_explorer::AlgorithmExplorer;
-use algorithms::{Algorithm, AlgorithmRefusal};
+use algorithms::{AlgorithmRefusal, InitializedAlgorithm};
 use cli::arguments::args::{AlgorithmExploreArgs, AlgorithmStatesArgs, StatesTool};
 use explorer::Space;
 use schedule::{Sink, Source};
 use state_streams::KeyForm;
 use std::alloc::Global;
 
-/// The first state of an algorithm's search. `BadSize`: the algorithm is not for this number of processes, or the limit is outside
-/// its range.
+/// The first state of an algorithm's search. `BadSize`: the algorithm has no world of these sizes.
 fn explorer_of(
     alloc: Global,
-    algorithm: Algorithm,
+    algorithm: InitializedAlgorithm,
     args: &AlgorithmExploreArgs,
 ) -> Result<AlgorithmExplorer, CommandFault>
-    ensures made { IfOk result (λ explorer. (live : List (List Bool)) × IsLeastLive algorithm live
+    ensures made { IfOk result (λ explorer. (live : List (List Bool)) × IsLeastLive algorithm.algorithm live
         × (search_state_of explorer ≡ start_by algorithm args.now live)) }
     ensures refused { IfErr result (λ fault. (fault ≡ CommandFault.OutOfMemory)
         ⊎ (fault ≡ CommandFault.BadSize) × (new_refusal algorithm args.now.procs args.now.limit ≡ None → ⊥)) }
@@ -87,14 +86,14 @@ fn carry_out_tool<R: Source, W: Sink>(
 /// Does what the tool says with the lines of the states of the search of the algorithm with this text.
 fn states_of_algorithm<R: Source, W: Sink>(
     alloc: Global,
-    algorithm: Algorithm,
+    algorithm: InitializedAlgorithm,
     args: &AlgorithmStatesArgs,
     text: &[u8],
     r: &mut R,
     w: &mut W,
 ) -> Result<Ending, CommandFault>
     ensures ends { AlgorithmStatesLack algorithm text.now args.now (W.tape w.old) (W.tape w.new) result
-        × (R.reading r.new ≡ R.reading r.old) ⊎ ((live : List (List Bool)) × IsLeastLive algorithm live
+        × (R.reading r.new ≡ R.reading r.old) ⊎ ((live : List (List Bool)) × IsLeastLive algorithm.algorithm live
         × ToolEnds (algorithm_run algorithm text.now args.now live) (R.reading r.old) (R.reading r.new) (W.tape w.old)
         (W.tape w.new) result) }
     ensures ended { IfOk result (IsEnded false (W.tape w.old).failures (W.tape w.new).failures) }
@@ -111,8 +110,8 @@ fn states_of_algorithm<R: Source, W: Sink>(
 }
 
 /// Runs `states --algorithm`: reads the algorithm from its text, and does what the tool says with the lines of the states of its
-/// search. `Algorithm`: the text's fault. `BadSize`: the algorithm is not for this number of processes, the limit is outside its range,
-/// the lines can't have the form, or there is no such part. `States`: a line is at fault.
+/// search. `Algorithm`: the text's fault. `BadSize`: the algorithm has no world of these sizes, the lines can't have the form, or
+/// there is no such part. `States`: a line is at fault.
 pub fn algorithm_states_command<R: Source, W: Sink>(
     alloc: Global,
     args: &AlgorithmStatesArgs,

@@ -18,7 +18,7 @@ use crate::page_parts::put_text;
 use crate::page_text::{PAGE_HEAD, PAGE_SCRIPT, PAGE_STEP};
 use algorithm_lab::verdict::verdict_of;
 use algorithm_lab::{AlgorithmReplayFault, Monitor, ReplayText};
-use algorithms::Algorithm;
+use algorithms::{Algorithm, InitializedAlgorithm};
 use schedule::texts::head::Head;
 use schedule::{Page, Schedule, Sink, Verdict};
 use std::alloc::{AllocError, Global};
@@ -94,7 +94,7 @@ fn page_of_run(
 /// line is refused, the page of the run up to it is written. All of it is made before the first byte is written.
 pub fn write_algorithm_page<W: Sink>(
     alloc: Global,
-    algorithm: Algorithm,
+    algorithm: InitializedAlgorithm,
     schedule: &Schedule,
     w: &mut W,
 ) -> Result<Verdict, AlgorithmReplayFault>

@@ -16,7 +16,7 @@ use crate::lifeline_state::LifelineState;
 use crate::phase::LifelinePhase;
 use algorithm_lab::verdict::verdict_of;
 use algorithm_lab::{AlgorithmReplayFault, Monitor, RunRefusal, hear_lines};
-use algorithms::Algorithm;
+use algorithms::{Algorithm, InitializedAlgorithm};
 use schedule::texts::head::Head;
 use schedule::{ReplayFault, Schedule, Sink, Verdict};
 use std::alloc::{AllocError, Global};
@@ -143,7 +143,7 @@ fn draw_on<W: Sink>(
 /// line 1 is refused and nothing is drawn. Each row takes memory; a repetition takes none.
 pub fn draw_algorithm<W: Sink>(
     alloc: Global,
-    algorithm: Algorithm,
+    algorithm: InitializedAlgorithm,
     schedule: &Schedule,
     style: Style,
     w: &mut W,

@@ -13,7 +13,7 @@ use crate::page_parts::{put_around, put_text};
 use crate::phase::LifelinePhase;
 use algorithm_lab::report::{put_all_reports, put_report_end};
 use algorithm_lab::{AlgorithmReplayFault, Monitor, ReplayText, RunRefusal};
-use algorithms::{Algorithm, AlgorithmWorld};
+use algorithms::{Algorithm, AlgorithmWorld, InitializedAlgorithm};
 use schedule::{Schedule, Sink, Verdict};
 use std::alloc::{AllocError, Global};
 
@@ -120,7 +120,7 @@ fn report_by_steps(
 /// reports. All of it is made before the first byte is written.
 pub fn follow_algorithm<W: Sink>(
     alloc: Global,
-    algorithm: Algorithm,
+    algorithm: InitializedAlgorithm,
     schedule: &Schedule,
     w: &mut W,
 ) -> Result<Verdict, AlgorithmReplayFault>

@@ -1,10 +1,10 @@
 use Rattle.std.proofs.Common.{option_copied}
-use Rattle.algorithms.specs.declared.algorithm.Algorithm.{Algorithm}
+use Rattle.algorithms.specs.declared.first_values.InitializedAlgorithm.{InitializedAlgorithm}
 use Rattle.commands.specs.AlgorithmExplores.{ExploresAlgorithm}
 use Rattle.commands.proofs.AlgorithmTexts.{algorithm_read}
 use Rattle.commands.proofs.algorithm_explore_command.search_shortest.Goals as goal
 
 pub returns-clause-ends : goal.returns-clause-ends
 returns-clause-ends g c =
-    algorithm_read (option_copied c.args.text) (λ (a : Algorithm). ExploresAlgorithm a c.args.args.now (g.W.Sink.tape c.args.w.now) (g.W.Sink.tape c.tell_shortest.new.w) c.tell_shortest.result)
+    algorithm_read (option_copied c.args.text) (λ (a : InitializedAlgorithm). ExploresAlgorithm a c.args.args.now (g.W.Sink.tape c.args.w.now) (g.W.Sink.tape c.tell_shortest.new.w) c.tell_shortest.result)
     _ _ c.tell_shortest.result c.in_ok-algorithm.algorithm c.in_ok-algorithm.ensures.spells c.in_ok-algorithm.ensures.ends c.in_ok-algorithm.ensures.leads c.tell_shortest.ensures.ends

@@ -1,6 +1,6 @@
 use Rattle.std.proofs.Common.{option_copied}
 use Rattle.std.proofs.lemmas.Result.{err_from_is_err_and}
-use Rattle.algorithms.specs.declared.algorithm.Algorithm.{Algorithm}
+use Rattle.algorithms.specs.declared.first_values.InitializedAlgorithm.{InitializedAlgorithm}
 use Rattle.schedule.specs.Schedules.{Scheduled}
 use Rattle.commands.specs.AlgorithmReplays.{TellsAlgorithm}
 use Rattle.commands.proofs.AlgorithmTexts.{both_read, no_schedule}
@@ -17,7 +17,7 @@ returns-in_err-schedule-clause-ends g c =
 pub returns-clause-ends : goal.returns-clause-ends
 returns-clause-ends g c =
     let read = c.in_ok-schedule.ensures.read in
-    both_read (option_copied c.args.text) (λ (a : Algorithm) (s : Scheduled). TellsAlgorithm c.args.args.now a s (g.W.Sink.tape c.args.w.now) (g.W.Sink.tape c.replay_on_algorithm.new.w) c.replay_on_algorithm.result)
+    both_read (option_copied c.args.text) (λ (a : InitializedAlgorithm) (s : Scheduled). TellsAlgorithm c.args.args.now a s (g.W.Sink.tape c.args.w.now) (g.W.Sink.tape c.replay_on_algorithm.new.w) c.replay_on_algorithm.result)
     (g.R.Source.reading c.args.r.now) (g.R.Source.reading c.schedule_read.new.r) (g.W.Sink.tape c.args.w.now) (g.W.Sink.tape c.replay_on_algorithm.new.w)
     c.replay_on_algorithm.result c.in_ok-algorithm.algorithm c.in_ok-schedule.schedule read.0
     c.in_ok-algorithm.ensures.spells c.in_ok-algorithm.ensures.ends c.in_ok-algorithm.ensures.leads read.1 read.2 c.replay_on_algorithm.ensures.reports

@@ -8,7 +8,11 @@ mod bad_texts;
 #[cfg(test)]
 mod cases;
 #[cfg(test)]
+mod constants;
+#[cfg(test)]
 mod drawings;
+#[cfg(test)]
+mod first_values;
 #[cfg(test)]
 mod hostile_texts;
 #[cfg(test)]

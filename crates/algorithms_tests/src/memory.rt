@@ -11,7 +11,7 @@ use algorithm_explorer::{
 };
 use algorithm_lab::AlgorithmReplayFault;
 use algorithm_texts::read_algorithm;
-use algorithms::Algorithm;
+use algorithms::InitializedAlgorithm;
 use schedule::{Schedule, ToWriter, read_schedule};
 use std::alloc::Global;
 use std::io::Cursor;
@@ -67,7 +67,7 @@ fn outcome_of(fault: AlgorithmReplayFault) -> Outcome {
 fn called(
     alloc: Global,
     kind: Kind,
-    algorithm: Algorithm,
+    algorithm: InitializedAlgorithm,
     schedule: &Schedule,
     printed: &mut [u8],
 ) -> Outcome {
@@ -119,7 +119,7 @@ fn may_be_written(kind: Kind, written: &[u8], whole: &[u8]) -> bool {
 fn refusals(
     alloc: Global,
     kind: Kind,
-    algorithms: &mut Vec<Algorithm>,
+    algorithms: &mut Vec<InitializedAlgorithm>,
     schedule: &Schedule,
     whole: &[u8],
     scarce_memory: &mut ScarceMemory,
@@ -144,7 +144,7 @@ fn refusals(
 }
 
 /// The same algorithm, once for each try.
-fn all_algorithms(alloc: Global, text: &[u8]) -> Result<Vec<Algorithm>, Fail> {
+fn all_algorithms(alloc: Global, text: &[u8]) -> Result<Vec<InitializedAlgorithm>, Fail> {
     let mut all = Vec::with_capacity(alloc, TRIES)?;
     for _ in 0..TRIES {
         all.push(read_algorithm(alloc, text)?)?;

@@ -7,7 +7,7 @@ use crate::schedules::ALONE_BY_STEPS;
 use crate::support::text_named;
 use algorithm_lab::{AlgorithmReplayFault, replay_algorithm};
 use algorithm_texts::read_algorithm;
-use algorithms::Algorithm;
+use algorithms::InitializedAlgorithm;
 use diagram::{Style, draw_algorithm, follow_algorithm};
 use schedule::{Schedule, Sink, ToWriter, Verdict, read_schedule};
 use std::alloc::Global;
@@ -34,7 +34,7 @@ impl Write for Unflushed {
 pub fn put_out<W: Sink>(
     alloc: Global,
     kind: Kind,
-    algorithm: Algorithm,
+    algorithm: InitializedAlgorithm,
     schedule: &Schedule,
     w: &mut W,
 ) -> Result<Verdict, AlgorithmReplayFault> {

@@ -8,16 +8,17 @@ use algorithm_lab::laws::{
     the_text_plays_as_the_lock,
 };
 use algorithm_texts::laws::{
-    a_line_says_one_thing, lines_make_blocks, tokens_are_read_as_said, tokens_say_one_part,
+    a_line_says_one_thing, a_text_without_values_begins_at_zero, lines_make_blocks,
+    tokens_are_read_as_said, tokens_say_one_part,
 };
 use algorithm_texts::read_algorithm;
-use algorithms::Algorithm;
+use algorithms::{Algorithm, InitializedAlgorithm};
 use std::alloc::{AllocError, Global};
 use std::fmt::Write;
 use std::test::Fail;
 
 /// The forms of the lines, in the order of `lines` of Bakery.antt, the answers, in the order of `answer_number` of Moves.antt, and
-/// all else.
+/// all else. No first values are said: the laws speak of worlds whose words begin at 0.
 const BAKERY: &str = "== bakery
 --
 Access(AccessLine { word: WordOf { declaration: 0, index: Some(Me) }, action: Load { name: 0 }, may_withdraw: false })
@@ -95,6 +96,7 @@ bakery [\"c\", \"k\", \"i\", \"m\", \"j\", \"v\"]
 [Declaration { name: \"choosing\", each: true, bound: Some(Number(1)) }, Declaration { name: \"number\", each: true, bound: Some(Limit) }, Declaration { name: \"inside\", each: true, bound: Some(Number(1)) }]
 Promises { reentry: true, order: true }
 1 to 64 processes, 0 lasting names
+first values None
 ";
 
 /// Two answers that differ in the spaces between their words alone.
@@ -132,16 +134,17 @@ fn put_head(algorithm: &Algorithm, text: &mut String) -> Result<(), AllocError> 
 }
 
 /// Writes all that a text spells.
-fn put_all(algorithm: &Algorithm, text: &mut String) -> Result<(), AllocError> {
-    put_forms(algorithm, text)?;
-    put_answers(algorithm, text)?;
-    put_head(algorithm, text)
+fn put_all(spelled: &InitializedAlgorithm, text: &mut String) -> Result<(), AllocError> {
+    put_forms(&spelled.algorithm, text)?;
+    put_answers(&spelled.algorithm, text)?;
+    put_head(&spelled.algorithm, text)?;
+    writeln!(text, "first values {:?}", spelled.first_values)
 }
 
 /// The answers of the text that is given, as a case.
 pub fn put_answers_of(alloc: Global, given: &str, text: &mut String) -> Result<(), Fail> {
     let algorithm = read_algorithm(alloc, given.as_bytes())?;
-    let written = put_answers(&algorithm, text);
+    let written = put_answers(&algorithm.algorithm, text);
     drop(algorithm);
     Ok(written?)
 }
@@ -171,5 +174,6 @@ fn the_text_spells_the_bakery(rt: HostRuntime) -> Result<(), Fail> {
     which_states_are_one();
     lines_make_blocks();
     tokens_are_read_as_said();
+    a_text_without_values_begins_at_zero();
     compare_cases(rt.alloc(), Kind::Spelling, BAKERY)
 }

@@ -21,7 +21,33 @@ fn name_of(text: &[u8]) -> &str {
     name
 }
 
-/// The text of that name. That of no name is empty, which is read by no test.
+/// The text of that name among those with swaps. That of no name is empty, which is read by no test.
+fn swaps_named(name: &str) -> &'static [u8] {
+    for text in [
+        swaps::ANDERSON,
+        swaps::MCS,
+        swaps::RECOVERABLE_TEST_AND_SET,
+        swaps::RECOVERABLE_TICKET,
+        swaps::TEST_AND_SET,
+        swaps::TEST_AND_TEST_AND_SET,
+        swaps::TICKET,
+        swaps::BOARD,
+        swaps::COUNTER,
+        swaps::MCS_NIL,
+        swaps::NAMED,
+        swaps::NARROW,
+        swaps::SEATS,
+        swaps::OWNER,
+        swaps::TURNSTILE,
+    ] {
+        if name_of(text) == name {
+            return text;
+        }
+    }
+    b""
+}
+
+/// The text of that name.
 pub fn text_named(name: &str) -> &'static [u8] {
     for text in [
         bakeries::BAKERY,
@@ -41,16 +67,6 @@ pub fn text_named(name: &str) -> &'static [u8] {
         others::PETERSON_ORDER,
         others::RECOVERABLE_PETERSON,
         others::SZYMANSKI,
-        swaps::MCS,
-        swaps::RECOVERABLE_TEST_AND_SET,
-        swaps::RECOVERABLE_TICKET,
-        swaps::TEST_AND_SET,
-        swaps::TEST_AND_TEST_AND_SET,
-        swaps::TICKET,
-        swaps::BOARD,
-        swaps::COUNTER,
-        swaps::OWNER,
-        swaps::TURNSTILE,
         constructs::CONSTRUCTS,
         sessions::BOUNDED,
     ] {
@@ -58,7 +74,7 @@ pub fn text_named(name: &str) -> &'static [u8] {
             return text;
         }
     }
-    b""
+    swaps_named(name)
 }
 
 /// Writes what another writer has written.

@@ -191,6 +191,7 @@ recoverable_test_and_set [\"h\"]
 [Declaration { name: \"holder\", each: false, bound: Some(Procs) }]
 Promises { reentry: true, order: false }
 1 to 64 processes, 0 lasting names
+first values None
 ";
 
 /// What is wrong, a text, and where: the line, and the number of its fault.

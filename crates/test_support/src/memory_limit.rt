@@ -10,7 +10,7 @@ const LARGEST: usize = 8 * 1024 * 1024 * 1024;
 const BLOCKS: usize = 200_000;
 
 /// The number of pieces in the reserve.
-pub const PIECES: usize = 400;
+pub const PIECES: usize = 600;
 
 const PIECE: usize = 240;
 

@@ -1,5 +1,27 @@
 //! The texts of examples/algorithms with swaps, and some that swap in other ways.
 
+pub const ANDERSON: &[u8] =
+    br"# Anderson 1990: an array of slots, taken in turn. Each spins on a slot of its own; the first one is open at the beginning.
+algorithm anderson for 1 to 64 processes
+promises exclusion, order
+
+shared tail up to procs - 1
+shared open[procs] up to 1 starts 1 - min(owner, 1)
+private s
+
+call lock
+  s := swap tail to (s + 1) mod procs   this is begin
+  this is ready
+  await o := open[s] until o = 1
+  this is enter
+  done
+
+call unlock
+  open[s] := 0
+  open[(s + 1) mod procs] := 1          this is leave
+  done
+";
+
 pub const MCS: &[u8] =
     br"# Mellor-Crummey and Scott 1991: a queue, in which each spins on a word of its own. 0 is nobody, else the process plus 1.
 algorithm mcs for 1 to 64 processes
@@ -210,5 +232,102 @@ call lock
 
 call unlock
   gate := 0                             this is leave
+  done
+";
+
+/// Constants.
+pub const NAMED: &[u8] = br"# A lock whose numbers have names.
+algorithm named for 1 to 64 processes
+promises exclusion, reentry
+
+constant free = 0
+constant most = free + procs
+constant twice = 2 * most - most
+
+shared holder up to twice
+
+call lock
+  h := holder
+  if h = me + 1 then goto in_now
+  await h := swap holder to me + 1 if h = free until h = free
+in_now:
+  this is enter
+  done
+
+call unlock
+  holder := free                        this is leave
+  done
+";
+
+/// First values.
+pub const MCS_NIL: &[u8] =
+    br"# Mellor-Crummey and Scott 1991, where nobody is the number after the last process: tail and next begin with it.
+algorithm mcs_nil for 1 to 64 processes
+promises exclusion, order
+
+constant nil = procs
+shared tail up to nil starts nil
+shared next[procs] up to nil starts nil
+shared locked[procs] up to 1
+
+call lock
+  next[me] := nil                       this is begin
+  p := swap tail to me                  this is ready
+  if p != nil then
+    locked[me] := 1
+    next[p] := me
+    await l := locked[me] until l = 0
+  end
+  this is enter
+  done
+
+call unlock
+  n := next[me]
+  if n = nil then
+    t := swap tail to nil if t = me
+    if t = me then
+      this is leave
+      done
+    end
+    await n := next[me] until n != nil
+  end
+  locked[n] := 0                        this is leave
+  done
+";
+
+/// First values that are too great for some sizes.
+pub const SEATS: &[u8] =
+    br"# All words begin with the number of processes, which is above their bound from three on.
+algorithm seats for 1 to 64 processes
+promises exclusion
+
+shared seat[procs] up to 2 starts procs
+
+call lock
+  v := seat[me]
+  await v := swap seat[0] to 0 if v = procs until v = procs
+  this is enter
+  done
+
+call unlock
+  seat[0] := procs                      this is leave
+  done
+";
+
+/// A constant without a value for some sizes.
+pub const NARROW: &[u8] = br"# A constant that has no value where there are few processes.
+algorithm narrow for 1 to 64 processes
+promises exclusion
+
+constant more = procs - 2
+shared held up to 1
+
+call lock
+  await h := swap held to 1 until h = 0
+  this is enter
+  done
+
+call unlock
+  held := 0                             this is leave
   done
 ";

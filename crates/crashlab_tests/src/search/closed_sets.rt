@@ -1,7 +1,10 @@
 //! Whether sets of states are closed: those of the jugs, as lines.
 
 use crate::search::jugs::Jugs;
-use state_streams::{KeyFault, KeyForm, KeyPart, SetVerdict, StreamFault, check_closed_set};
+use state_streams::{
+    KeyFault, KeyForm, KeyPart, SetCheck, SetVerdict, StreamFault, check_block, check_closed_set,
+    verdict_of,
+};
 use std::alloc::Global;
 use std::test::Fail;
 
@@ -116,8 +119,12 @@ fn sets_that_are_not_closed(rt: HostRuntime) -> Result<(), Fail> {
     );
     assert_eq!(rt; verdict(alloc, 9, "", 0, 1), Some(Ok(SetVerdict::NoStart)));
     assert_eq!(rt;
-        verdict(alloc, 4, "00404\n30404\n03404\n31404\n", 0, 1),
+        verdict(alloc, 4, "00404\n30404\n03404\n", 0, 1),
         Some(Ok(SetVerdict::Open { line: 1 }))
+    );
+    assert_eq!(rt;
+        verdict(alloc, 4, "00404\n30404\n03404\n31404\n", 0, 1),
+        Some(Ok(SetVerdict::Fault { line: 4 }))
     );
     assert_eq!(rt;
         verdict(alloc, 3, "00304\n30304\n05304\n35304\n", 0, 1),
@@ -126,7 +133,39 @@ fn sets_that_are_not_closed(rt: HostRuntime) -> Result<(), Fail> {
     Ok(())
 }
 
-/// A line that is too short, and a part of no more parts.
+/// What is said of a set from empty jugs on, each line of which is a block.
+fn verdict_by_lines(alloc: Global, text: &str) -> Option<SetVerdict> {
+    let form = KeyForm::new(4, 1)?;
+    let mut jugs = Jugs {
+        small: 0,
+        big: 0,
+        wanted: 9,
+        spills: 0,
+    };
+    let mut check = SetCheck::new(alloc, &jugs, KeyPart::ALL).ok()?;
+    for block in text.as_bytes().chunks(form.width) {
+        check_block(alloc, &mut jugs, &form, block, &mut check).ok()?;
+    }
+    verdict_of::<Jugs>(&check).ok()
+}
+
+#[test]
+fn sets_by_blocks(rt: HostRuntime) -> Result<(), Fail> {
+    let alloc = rt.alloc();
+    assert_eq!(rt; verdict_by_lines(alloc, ALL), Some(SetVerdict::Closed));
+    assert_eq!(rt;
+        verdict_by_lines(alloc, IN_NO_ORDER),
+        Some(SetVerdict::Closed)
+    );
+    assert_eq!(rt; verdict_by_lines(alloc, ""), Some(SetVerdict::NoStart));
+    assert_eq!(rt;
+        verdict_by_lines(alloc, WITHOUT_ONE),
+        Some(SetVerdict::Open { line: 9 })
+    );
+    Ok(())
+}
+
+/// A line that is too short, keys of no state, and a part of no more parts.
 #[test]
 fn sets_that_are_refused(rt: HostRuntime) -> Result<(), Fail> {
     let alloc = rt.alloc();
@@ -134,6 +173,15 @@ fn sets_that_are_refused(rt: HostRuntime) -> Result<(), Fail> {
     assert_eq!(rt;
         verdict(alloc, 9, "00904\n090\n", 0, 1),
         Some(Err(StreamFault::At { line: 2, fault }))
+    );
+    let fault = KeyFault::NoState;
+    assert_eq!(rt;
+        verdict(alloc, 9, "00904\n00903\n090\n", 0, 1),
+        Some(Err(StreamFault::At { line: 2, fault }))
+    );
+    assert_eq!(rt;
+        verdict(alloc, 9, "00000\n", 0, 1),
+        Some(Err(StreamFault::At { line: 1, fault }))
     );
     assert_eq!(rt; verdict(alloc, 9, ALL, 3, 3), None);
     Ok(())

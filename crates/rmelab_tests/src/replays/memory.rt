@@ -1,6 +1,6 @@
-//! Each request for memory of replays and of a trace is refused in turn.
+//! Each request for memory of replays, of a trace and of sessions is refused in turn.
 
-use crate::replays::{reports, stepwise};
+use crate::replays::{reports, sessions, stepwise};
 use crate::support::invocation::all_meet_refusals;
 use std::test::Fail;
 
@@ -11,6 +11,7 @@ const OUT_OF_MEMORY: &str = "
 @row rmelab replay --each --json @in SMALLEST @out LINES
 @row rmelab judge @in IN_ORDER @out
 verdict fine
+@row rmelab step @in IN_AND_BACK @out IN_AND_BACK_TOLD
 ";
 
 #[test]
@@ -18,7 +19,7 @@ fn out_of_memory(rt: HostRuntime) -> Result<(), Fail> {
     all_meet_refusals(
         &rt,
         rt.alloc(),
-        &[reports::TEXTS, stepwise::TEXTS],
+        &[reports::TEXTS, sessions::TEXTS, stepwise::TEXTS],
         OUT_OF_MEMORY,
     )
 }

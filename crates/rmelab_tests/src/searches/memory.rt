@@ -23,6 +23,12 @@ nothing found
 @row rmelab shrink --algorithm a.lock @in ALONE @file a.lock PETERSON @out FINE
 @row rmelab draw --algorithm a.lock @in ALONE @file a.lock PETERSON @out ALONE_DRAWN
 @row rmelab replay --algorithm a.lock @in ALONE @file a.lock PETERSON @out ALONE_TOLD
+@row rmelab replay --algorithm a.lock --each @in ALONE @file a.lock PETERSON @out ALONE_BY_STEPS
+@row rmelab replay --algorithm a.lock --json @in ALONE @file a.lock PETERSON @out ALONE_AS_OBJECT
+@row rmelab replay --algorithm a.lock --each --json @in ALONE @file a.lock PETERSON @out ALONE_AS_LINES
+@row rmelab step --algorithm a.lock @in SESSION @file a.lock ONE_WORD @out HELD
+@row rmelab step --algorithm a.lock b.rme @file a.lock PETERSON @file b.rme ALONE @out BEGUN @in
+undo
 ";
 
 #[test]

@@ -5,7 +5,7 @@ use crate::support::invocation::{all_come_to, program_comes_to};
 use std::test::Fail;
 
 /// `FIRST`: of one process that may lock and unlock. `NARROW`: the same, by one character a word. `STILL`: it may only unlock, which is
-/// refused outside, so that no move leads anywhere. `NO_STATES`: the header alone.
+/// refused outside, so that no move leads anywhere. `NO_STATES`: the header alone. `NO_WORDS`: a key without words, which no state has.
 const TEXTS: &str = "
 @text FIRST
 !states 1 words 68 digits 2 of right procs 1 calls lock unlock crashes 0 limit 4 cap 1 width 1
@@ -27,6 +27,9 @@ const TEXTS: &str = "
 !states 1 words 68 digits 2 of right procs 1 calls unlock crashes 0 limit 4 cap 1 width 1
 000?0000000000000000000000000000000000000000000001000000000000000000000000000000000000000000000000000000000000000000000000000000000000000T
 ~
+@text NO_WORDS
+!states 1 words 68 digits 2 of right procs 1 calls unlock crashes 0 limit 4 cap 1 width 1
+000000000000000000000000000000000000000000000000000000000000000000000000000000000000000000000000000000000000000000000000000000000000000000
 @text BAD_SIZE
 rmelab: bad size
 @text UNREAD
@@ -64,6 +67,10 @@ closed: 1 states, part 2 of 3, sha256 ec246a7240ad486a98a4c1014d26056d83ddc2a6fd
 rmelab: states line 3: fault 2: this is no line of a state
 @row rmelab states check --variant right --procs 1 --calls unlock @in DAMAGED @ends 2 @err
 rmelab: states line 3: fault 2: this is no line of a state
+@row rmelab states expand --variant right --procs 1 --calls unlock @in NO_WORDS @ends 2 @out NO_STATES @err
+rmelab: states line 2: fault 3: there is no such state
+@row rmelab states check --variant right --procs 1 --calls unlock @in NO_WORDS @ends 2 @err
+rmelab: states line 2: fault 3: there is no such state
 @row rmelab states lead --variant right --procs 1 --calls unlock @in STILL @ends 2 @err
 rmelab: states line 1: fault 5: the text has not two sets of states
 @row rmelab states walk --variant right --procs 1 --calls unlock @in NO_STATES @ends 2 @err

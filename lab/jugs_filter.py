@@ -91,21 +91,32 @@ class Jugs:
                 print(to_line(state))
         return 0
 
+    def is_of_part(self, state: State) -> bool:
+        return state[0] % self.given.parts == self.given.part
+
+    def verdict(self, states: list[State]) -> str | None:
+        """Why a set of states is not closed, as far as the part goes. None where it is."""
+        known = set(states)
+        for number, state in enumerate(states, 1):
+            if any(self.is_wrong(after) for _, after in moves_of(state)):
+                return f"state {number} goes wrong"
+        if self.is_of_part((0, 0)) and (0, 0) not in known:
+            return "the first state is not in the set"
+        for number, state in enumerate(states, 1):
+            if any(self.is_of_part(after) and after not in known for _, after in moves_of(state)):
+                return f"state {number} leads out of it"
+        return None
+
     def check(self) -> int:
         text = self.text()
-        states = [from_line(line, number) for number, line in enumerate(text.splitlines()[1:], 2)]
-        known = set(states)
-        if (0, 0) not in known:
-            print("open: the first state is not in the set")
+        header, *lines = text.splitlines() or [""]
+        if header != self.header:
+            refuse(1, 1)
+        states = [from_line(line, number) for number, line in enumerate(lines, 2)]
+        open_at = self.verdict(states)
+        if open_at is not None:
+            print(f"open: {open_at}")
             return 1
-        for number, state in enumerate(states, 1):
-            for _, after in moves_of(state):
-                if self.is_wrong(after):
-                    print(f"open: state {number} goes wrong")
-                    return 1
-                if after[0] % self.given.parts == self.given.part and after not in known:
-                    print(f"open: state {number} leads out of it")
-                    return 1
         digest = hashlib.sha256(text.encode()).hexdigest()
         print(f"closed: {len(states)} states, part {self.given.part} of {self.given.parts}, sha256 {digest}")
         return 0

@@ -1,9 +1,11 @@
 """Tests of the drivers over Dask, with the states of two jugs and workers of this machine. Without Dask they are left out."""
 
 import contextlib
+import hashlib
 import io
 import os
 import unittest
+from collections.abc import Callable
 from unittest import mock
 
 try:
@@ -86,6 +88,63 @@ class Clusters(unittest.TestCase):
         self.assertEqual((status, out), (3, ""))
         self.assertIn("the certificate is refused: open: state", err)
 
+    def spoiled(self, spoil: Callable[[bytes], bytes]) -> tuple[int, str, str]:
+        """A search that finds all states, whose lines are changed before they are checked."""
+        certify = explore_cluster.Search.certify
+
+        def certifies(search: explore_cluster.Search) -> None:
+            for runs in search.runs:
+                for at, run in enumerate(runs):
+                    lines = cluster_tasks.unpack(run.block.result())
+                    [block] = self.client.scatter([cluster_tasks.pack(spoil(lines))])
+                    runs[at] = explore_cluster.Run(block, run.states)
+            certify(search)
+
+        with mock.patch.object(explore_cluster.Search, "certify", certifies):
+            return self.search("9", "--checks", "2")
+
+    def refuses(self, old: bytes, new: bytes, reason: str) -> None:
+        status, out, err = self.spoiled(lambda lines: lines.replace(old, new))
+        self.assertEqual((status, out), (3, ""))
+        self.assertIn(reason, err)
+
+    def test_the_certificate_of_a_lost_state(self) -> None:
+        self.refuses(b"35\n", b"", "the certificate is refused: open: state")
+
+    def test_the_certificate_of_a_lost_first_state(self) -> None:
+        self.refuses(b"00\n", b"", "open: the first state is not in the set")
+
+    def test_the_certificate_of_another_state(self) -> None:
+        self.refuses(b"35\n", b"11\n", "the certificate is refused: open: state")
+
+    def test_the_certificate_of_a_damaged_line(self) -> None:
+        self.refuses(b"35\n", b"~~\n", "fault 2")
+
+    def test_the_certificate_of_a_lost_run(self) -> None:
+        certify = explore_cluster.Search.certify
+
+        def loses(search: explore_cluster.Search) -> None:
+            next(runs for runs in search.runs if runs).pop()
+            certify(search)
+
+        with mock.patch.object(explore_cluster.Search, "certify", loses):
+            status, out, err = self.search("9")
+        self.assertEqual((status, out), (3, ""))
+        self.assertIn("the certificate is refused: open:", err)
+
+    def test_parts_of_different_sets(self) -> None:
+        """Parts of a certificate that are of different sets are found out, also where each of these is closed."""
+        unpack = cluster_tasks.unpack
+
+        def checks(states: StateFilter, header: bytes, part: int, parts: int, blocks: list[bytes]) -> tuple[int, str]:
+            swapped = [b"".join(sorted(cluster_tasks.lines_of(unpack(block)), reverse=part == 1)) for block in blocks]
+            return cluster_tasks.check(states, header, part, parts, [cluster_tasks.pack(lines) for lines in swapped])
+
+        with mock.patch.object(explore_cluster, "check", checks):
+            status, out, err = self.search("9", "--checks", "2")
+        self.assertEqual((status, out), (3, ""))
+        self.assertIn("different sets", err)
+
     def test_a_hunt_is_that_of_one_machine(self) -> None:
         """The least round wins, whichever shard ends first."""
 
@@ -124,6 +183,22 @@ class Tasks(unittest.TestCase):
         with mock.patch.object(cluster_tasks.tempfile, "mkdtemp", side_effect=OSError(28, "No space left on device")):
             with self.assertRaises(OSError):
                 cluster_tasks.expand(StateFilter(FILTER, ("--wanted", "9")), b"", 1, cluster_tasks.pack(b"00\n"))
+
+    def test_a_full_disk_at_the_certificate(self) -> None:
+        states = StateFilter(FILTER, ("--wanted", "9"))
+        header, first = states.first()
+        with mock.patch.object(cluster_tasks, "write_files", side_effect=OSError(28, "No space left on device")):
+            with self.assertRaises(OSError):
+                cluster_tasks.check(states, header, 0, 1, [cluster_tasks.pack(first)])
+
+    def test_a_check_of_one_part(self) -> None:
+        """The first state alone is open, but not in the part to which no move of its leads."""
+        states = StateFilter(FILTER, ("--wanted", "9"))
+        header, first = states.first()
+        blocks = [cluster_tasks.pack(first), b""]
+        self.assertEqual(cluster_tasks.check(states, header, 1, 4, blocks), (1, hashlib.sha256(header + first).hexdigest()))
+        with self.assertRaises(Ended):
+            cluster_tasks.check(states, header, 0, 4, blocks)
 
     def test_a_damaged_block(self) -> None:
         states = StateFilter(FILTER, ("--wanted", "9"))

@@ -12,13 +12,13 @@ TOP = os.path.dirname(os.path.dirname(os.path.realpath(__file__)))
 ARCHITECTURE = "docs/dev/architecture.md"
 THEOREM = "docs/theory/theorem.md"
 
-MOST_CRATES = 34
+MOST_CRATES = 35
 MOST_LINES_OF_A_FILE = 500
 MOST_LINES_OF_A_BODY = 40
 WIDEST_CLAUSE = 140  # Bytes.
 MOST_NOUNS = 40
 MOST_DOUBLE_NAMES = 4
-MOST_WORDS = 36_800  # Of all pages by hand, as `wc -w` counts them.
+MOST_WORDS = 37_100  # Of all pages by hand, as `wc -w` counts them.
 MOST_HEADLINES = 2
 HEADLINE = "nobody enters before the process that crashed there has entered again"
 

@@ -14,6 +14,11 @@ pub const PIECES: usize = 600;
 
 const PIECE: usize = 240;
 
+/// The blocks in which the pieces have room, and the bytes of one. The C library keeps a few bytes beside each piece.
+const ROOMS: usize = 3;
+
+const ROOM: usize = (PIECES / ROOMS + 1) * (PIECE + 16);
+
 /// The threads that take memory: this one, the four whose arenas are left to others, and one more, whose arena this one takes
 /// over when its own has nothing left.
 const THREADS: usize = 6;
@@ -38,10 +43,12 @@ impl ScarceMemory {
     /// Takes all memory that is free. `AllocError`: there is not even enough for the reserve.
     pub fn new(alloc: Global) -> Result<ScarceMemory, AllocError> {
         let mut taken = nothing_taken(alloc, 1)?;
-        let reserve = reserve(alloc)?;
-        if let Some(last) = taken.last_mut() {
-            last.take_all(alloc);
-        }
+        let mut reserve = Vec::with_capacity(alloc, PIECES)?;
+        let rooms = rooms(alloc)?;
+        take_all(alloc, &mut taken);
+        drop(rooms);
+        fill(alloc, &mut reserve)?;
+        take_all(alloc, &mut taken);
         Ok(ScarceMemory { reserve, taken })
     }
 
@@ -55,11 +62,13 @@ impl ScarceMemory {
         let mut of_others = nothing_taken(alloc, THREADS)?;
         let mut taken = nothing_taken(alloc, 1)?;
         taken.reserve(THREADS)?;
-        let reserve = reserve(alloc)?;
+        let mut reserve = Vec::with_capacity(alloc, PIECES)?;
+        let rooms = rooms(alloc)?;
         take_in_threads(rt, alloc, of_others.as_mut_slice());
-        if let Some(last) = taken.last_mut() {
-            last.take_all(alloc);
-        }
+        take_all(alloc, &mut taken);
+        drop(rooms);
+        fill(alloc, &mut reserve)?;
+        take_all(alloc, &mut taken);
         taken.append(&mut of_others)?;
         Ok(ScarceMemory { reserve, taken })
     }
@@ -78,13 +87,29 @@ impl ScarceMemory {
     }
 }
 
-/// The pieces of the reserve.
-fn reserve(alloc: Global) -> Result<Vec<Vec<u8>>, AllocError> {
-    let mut reserve = Vec::with_capacity(alloc, PIECES)?;
+/// Blocks in which the pieces have room. They are kept while all else is taken, and no piece lies in a hole that an earlier call
+/// left: so pieces that are given back lie side by side, and make room for a larger request.
+fn rooms(alloc: Global) -> Result<Vec<Vec<u8>>, AllocError> {
+    let mut rooms = Vec::with_capacity(alloc, ROOMS)?;
+    for _ in 0..ROOMS {
+        rooms.push(Vec::<u8>::with_capacity(alloc, ROOM)?)?;
+    }
+    Ok(rooms)
+}
+
+/// Adds the pieces of the reserve.
+fn fill(alloc: Global, reserve: &mut Vec<Vec<u8>>) -> Result<(), AllocError> {
     for _ in 0..PIECES {
         reserve.push(Vec::<u8>::with_capacity(alloc, PIECE)?)?;
     }
-    Ok(reserve)
+    Ok(())
+}
+
+/// Takes all memory that this thread finds.
+fn take_all(alloc: Global, taken: &mut Vec<Taken>) {
+    if let Some(last) = taken.last_mut() {
+        last.take_all(alloc);
+    }
 }
 
 /// Room for the blocks that this many threads take.

@@ -1,9 +1,10 @@
-//! Why a judge refuses a deed.
+//! Why a verdict is against a run.
 
 use std::error::Error;
 use std::fmt;
 
-/// Why a deed is refused: the first of its needs that fails. The judge table orders the needs.
+/// Why a verdict is against a run. A judge refuses a deed for the first of its needs that fails; the judge table orders the needs.
+/// The last three come from no judge: they count the own steps of an algorithm's process.
 #[derive(Clone, Copy, Debug, PartialEq, Eq)]
 pub enum Fault {
     /// The process is in the wrong phase for the deed, or there is no such process.
@@ -20,6 +21,12 @@ pub enum Fault {
     MailOrder,
     /// The mailbox is closed.
     AfterClose,
+    /// A process takes more own steps in its exit section than the algorithm promises.
+    LongExit,
+    /// A process that crashed inside takes more own steps up to its re-entry than the algorithm promises.
+    LongRecovery,
+    /// A process takes more own steps in its doorway than the algorithm promises.
+    LongDoorway,
 }
 
 impl fmt::Display for Fault {
@@ -35,6 +42,9 @@ impl fmt::Display for Fault {
             Fault::NotInside => "the process is not inside",
             Fault::MailOrder => "the mailbox is not in a state for this deed",
             Fault::AfterClose => "the mailbox is closed",
+            Fault::LongExit => "the exit takes more steps than are promised",
+            Fault::LongRecovery => "the recovery takes more steps than are promised",
+            Fault::LongDoorway => "the doorway takes more steps than are promised",
         };
         f.write_str(text)
     }

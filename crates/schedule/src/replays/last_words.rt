@@ -2,7 +2,8 @@
 
 ghost use Rattle.std.specs.Prelude.{◌≡◌, ◌++◌, ◌∷◌, [], ◌+◌, ◌^◌, ◌<◌, OnOk, IfErr, codes, length, slice_index, List, ℕ};
 ghost use Rattle.std.specs.Fmt.{decimal};
-ghost use Rattle.schedule.specs.Reports.{own_line, owns_text, message_line, messages_text, count_line, content_text, broken_text, verdict_line, words_of_verdict, IsMailText, IsEnd};
+ghost use Rattle.schedule.specs.Reports.{own_line, owns_text, message_line, messages_text, count_line, content_text, broken_text, verdict_line, words_of_overtaking, words_of_verdict, IsMailText, IsEnd};
+ghost use Rattle.std.specs.List.{flat_map};
 ghost use Rattle.rmeworld.specs.ImageRules.{layout_of};
 ghost use Rattle.schedule.specs.Words.{line_of};
 
@@ -102,18 +103,25 @@ fn put_mail(
     }
 }
 
-/// Writes the verdict against a deed, with the processes that an overtaking names.
-fn put_verdict_words(out: &mut Vec<u8>, at: u64, fault: Fault) -> Result<(), AllocError>
-    ensures { OnOk result (out.new.items ≡ out.old.items ++ verdict_line (Verdict.Against at fault)) }
+/// Writes the words after a fault, and LF: the processes that an overtaking names.
+fn put_overtaking(out: &mut Vec<u8>, fault: Fault) -> Result<(), AllocError>
+    ensures { OnOk result (out.new.items ≡ out.old.items ++ flat_map (λ w. 32 ∷ w) (words_of_overtaking fault) ++ 10 ∷ []) }
 {
-    put_start(out, b"verdict against", fault_number(fault))?;
-    put_named(out, b"at", at)?;
     if let Fault::Overtaken { by, of } = fault {
         put_named(out, b"by", by)?;
         put_named(out, b"of", of)?;
     }
     out.push(b'\n')?;
     Ok(())
+}
+
+/// Writes the verdict against a deed, with the processes that an overtaking names.
+fn put_verdict_words(out: &mut Vec<u8>, at: u64, fault: Fault) -> Result<(), AllocError>
+    ensures { OnOk result (out.new.items ≡ out.old.items ++ verdict_line (Verdict.Against at fault)) }
+{
+    put_start(out, b"verdict against", fault_number(fault))?;
+    put_named(out, b"at", at)?;
+    put_overtaking(out, fault)
 }
 
 /// Writes the verdict line.

@@ -1,8 +1,9 @@
 -- The words of a world at its beginning: how many rows there are, and how long they are.
-use Rattle.std.proofs.Common.{ℕ, zero, suc, ◌+◌, ◌<◌, ◌≤◌, ◌≡◌, ◌⊎◌, ◌∙◌, inl, inr, subst, min, length-append, sym, refl, ap, arith, add-one, append_assoc, Bool, true, false, ◌&&◌, if◌then◌else◌, List, [], ◌∷◌, ◌++◌, drop, length, replicate, slice_get, slice_set, Option, Some, None}
+use Rattle.std.proofs.Common.{ℕ, zero, suc, ◌+◌, ◌<◌, ◌≤◌, ◌≡◌, ◌⊎◌, ◌∙◌, inl, inr, subst, length-append, sym, refl, ap, arith, add-one, append_assoc, Bool, ◌&&◌, List, [], ◌∷◌, ◌++◌, drop, length, replicate, slice_get, slice_set, Option, Some, None}
 use Rattle.std.proofs.lemmas.List.{length-replicate}
 use Rattle.std.proofs.lemmas.Option.{same_Some}
-use Rattle.algorithms.specs.FirstWords.{first_row, first_rows, first_value, or_zero, row_of_values, row_or_zeros, rows_at_beginning, rows_said, values_to, all_below, declaration_size}
+use Rattle.algorithms.specs.Extents.{or_zero}
+use Rattle.algorithms.specs.FirstWords.{first_row, first_rows, first_value, row_of_values, row_or_zeros, rows_at_beginning, rows_said, values_to, all_below, declaration_size}
 use Rattle.algorithms.specs.declared.algorithm.Algorithm.{Algorithm}
 use Rattle.algorithms.specs.declared.algorithm.Declaration.{Declaration}
 use Rattle.algorithms.specs.declared.expression.Expression.{Expression}
@@ -68,9 +69,8 @@ drop_long zero ys h = omega arith
 drop_long (suc n) [] h = absurd (omega (arith, h))
 drop_long (suc n) (y ∷ ys) h = let k = drop_long n ys (omega (arith, h)) in omega (arith, k)
 
-count_by : (b : Bool) (procs : ℕ) → (if b then min procs 64 else 1) ≤ 64
-count_by true procs = omega arith
-count_by false procs = omega arith
+size_few : (procs limit : ℕ) (d : Declaration) → declaration_size procs limit d ≤ 64
+size_few procs limit d = omega arith
 
 filled_long : (f : ℕ → ℕ) (n : ℕ) → n ≤ 64 → length (values_to f n ++ drop n (replicate 64 0)) ≡ 64
 filled_long f n few =
@@ -80,7 +80,7 @@ filled_long f n few =
 
 row_long : (procs limit : ℕ) (d : Declaration) (o : Option Expression) → length (row_of_values procs limit d o) ≡ 64
 row_long procs limit d None = refl
-row_long procs limit d (Some value) = filled_long (λ i. or_zero (first_value procs limit d value i)) (declaration_size procs d) (count_by d.each procs)
+row_long procs limit d (Some value) = filled_long (λ i. or_zero (first_value procs limit d value i)) (declaration_size procs limit d) (size_few procs limit d)
 
 -- a row has 64 values
 first_row_long : (procs limit : ℕ) (o : Option Declaration) (start : Option (Option Expression)) → length (first_row procs limit o start) ≡ 64

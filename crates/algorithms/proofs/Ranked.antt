@@ -1,20 +1,23 @@
 -- Lines that fall: a run of local lines ends.
-use Rattle.std.proofs.Common.{ℕ, zero, suc, ◌+◌, ◌^◌, ◌<◌, ◌≤◌, ◌≡◌, Bool, true, false, cond, ◌&&◌, ◌||◌, nat_lt, nat_eq, refl, sym, ◌∙◌, ap, List, length, Option, Some, None, Ok, Err, ok_or, slice_get, slice_index, option_and_then, arith}
-use Rattle.std.proofs.lemmas.Bool.{leb-true, lt-ltb, ltb-true}
-use Rattle.std.proofs.lemmas.Option.{slice_get_within}
-use Rattle.algorithms.specs.Values.{expression_value, holds, fitting}
-use Rattle.algorithms.specs.LocalRuns.{at_place, with_value, with_deed, least_from, member_from, round_at, local_line_done}
+use Rattle.std.proofs.Common.{ℕ, zero, suc, ◌+◌, ◌-◌, ◌^◌, ◌<◌, ◌≤◌, ◌≡◌, Bool, true, false, cond, ◌&&◌, ◌||◌, nat_lt, nat_le, nat_eq, refl, sym, ◌∙◌, ap, List, length, replicate, Option, Some, None, Ok, Err, ok_or, slice_get, slice_index, option_and_then, arith}
+use Rattle.std.proofs.lemmas.Bool.{leb-true, le-leb, lt-ltb, ltb-true}
+use Rattle.std.proofs.lemmas.Option.{same_Some, slice_get_within}
+use Rattle.algorithms.specs.Values.{expression_value, operation_value, holds, fitting}
+use Rattle.algorithms.specs.LocalRuns.{at_place, with_value, with_deed, least_from, member_from, end_value, first_number, number_after, round_at, local_line_done}
 use Rattle.algorithms.specs.Arrivals.{GoesOn, arrives, arrives_after, local_step_of, ◌>>=◌}
-use Rattle.algorithms.specs.Ranked.{rank_of, is_line_below, is_below, has_round, ways_pass, is_line, form_falls, AllFall, LocalLinesEnd, AccessesLeadOn}
+use Rattle.algorithms.specs.Ranked.{rank_of, is_line_below, is_below, literal_of, less_by, least_joined, least_value, has_round, ways_pass, is_line, form_falls, AllFall, LocalLinesEnd, AccessesLeadOn}
 use Rattle.algorithms.specs.declared.algorithm.Algorithm.{Algorithm}
 use Rattle.algorithms.specs.declared.constants.Constants.{Constants}
+use Rattle.algorithms.specs.declared.expression.Expression.{Expression, Number, Private, Me, Procs, Limit, Joined'}
+use Rattle.algorithms.specs.declared.expression.Operator.{Operator}
+use Rattle.algorithms.specs.declared.expression.Operator.TheVariants.{Sum, Difference, Product, Quotient, Remainder, Maximum, Minimum, Within}
 use Rattle.algorithms.specs.declared.line.LineKind.{LineKind}
 use Rattle.algorithms.specs.declared.line.LineKind.TheVariants.{Access, Local, Done}
 use Rattle.algorithms.specs.declared.line.AlgorithmLine.{AlgorithmLine}
 use Rattle.algorithms.specs.declared.line.LocalLine.{LocalLine}
 use Rattle.algorithms.specs.declared.line.LocalLine.TheVariants.{Assign, Note, Goto, Branch, First, Next}
 use Rattle.algorithms.specs.declared.line.Members.{Members}
-use Rattle.algorithms.specs.declared.line.Members.TheVariants.{All, Others, Lower, Higher}
+use Rattle.algorithms.specs.declared.line.Members.TheVariants.{All, Others, Lower, Higher, Up, Down}
 use Rattle.algorithms.specs.declared.local.LocalState.{LocalState}
 use Rattle.algorithms.specs.declared.refusal.AlgorithmRefusal.TheVariants.{OutOfRange, Malformed}
 
@@ -32,6 +35,11 @@ bind_lands : {A : Type 0} (test : ℕ → Bool) (o : Option A) (g : A → Option
     → ((v : A) → g v ≡ Some t → test t.at ≡ true) → test t.at ≡ true
 bind_lands test None g t e h = absurd (cc)
 bind_lands test (Some v) g t e h = h v e
+
+bind_got : {A : Type 0} (test : ℕ → Bool) (o : Option A) (g : A → Option LocalState) (t : LocalState) → option_and_then g o ≡ Some t
+    → ((v : A) → o ≡ Some v → g v ≡ Some t → test t.at ≡ true) → test t.at ≡ true
+bind_got test None g t e h = absurd (cc)
+bind_got test (Some v) g t e h = h v refl e
 
 some_lands : (test : ℕ → Bool) (u t : LocalState) → Some u ≡ Some t → test u.at ≡ true → test t.at ≡ true
 some_lands test u t e h = let same : u ≡ t = cc in ap (λ x. test x.at) (sym same) ∙ h
@@ -51,12 +59,89 @@ one_or_none false n h = omega arith
 others_some : (c : Constants) → c.me < c.procs → 2 ≤ c.procs → least_from c Others 0 ≡ None → ⊥
 others_some c own two e = fitting_some (member_from c Others 0) c.procs (one_or_none (nat_eq 0 c.me) c.procs two) e
 
--- a loop that has a round in each world has a first member
-first_member : (least : ℕ) (members : Members) (c : Constants) → has_round least members ≡ true → c.me < c.procs → least ≤ c.procs → least_from c members 0 ≡ None → ⊥
-first_member least All c r own many e = fitting_some 0 c.procs (omega arith) e
-first_member least Others c r own many e = let two : 2 ≤ least = leb-true 2 least r in others_some c own (omega arith) e
-first_member least Lower c r own many e = absurd (cc)
-first_member least Higher c r own many e = absurd (cc)
+-- a value is not below its least one
+
+fitting_is : (b : Bool) (n v : ℕ) → fitting b n ≡ Some v → n ≡ v
+fitting_is true n v e = same_Some n v e
+fitting_is false n v e = absurd (cc)
+
+module _ (least : ℕ) (c : Constants) (store : List ℕ) (many : least ≤ c.procs) where
+  -- the value of a difference, where that of its left side is not below its least one
+  difference_by : (a b : Expression) (v : ℕ) → ((x : ℕ) → expression_value c store a ≡ Some x → least_value least a ≤ x)
+      → option_and_then (λ x. option_and_then (λ y. operation_value Difference x y) (expression_value c store b)) (expression_value c store a) ≡ Some v → less_by (least_value least a) (literal_of b) ≤ v
+  difference_by a (Number k) v low e = on (expression_value c store a) refl e
+    where
+      on : (o : Option ℕ) → expression_value c store a ≡ o → option_and_then (λ x. operation_value Difference x k) o ≡ Some v → least_value least a - k ≤ v
+      on None f e = absurd (cc)
+      on (Some x) f e = let same : x - k ≡ v = fitting_is (nat_le k x) (x - k) v e in let h = low x f in omega (arith, h, same)
+  difference_by a (Private k) v low e = omega arith
+  difference_by a Me v low e = omega arith
+  difference_by a Procs v low e = omega arith
+  difference_by a Limit v low e = omega arith
+  difference_by a (Joined' o p x q y) v low e = omega arith
+
+  joined_by : (o : Operator) (a b : Expression) (v : ℕ) → ((x : ℕ) → expression_value c store a ≡ Some x → least_value least a ≤ x)
+      → option_and_then (λ x. option_and_then (λ y. operation_value o x y) (expression_value c store b)) (expression_value c store a) ≡ Some v → least_joined o (least_value least a) (literal_of b) ≤ v
+  joined_by Difference a b v low e = difference_by a b v low e
+  joined_by Sum a b v low e = omega arith
+  joined_by Product a b v low e = omega arith
+  joined_by Quotient a b v low e = omega arith
+  joined_by Remainder a b v low e = omega arith
+  joined_by Maximum a b v low e = omega arith
+  joined_by Minimum a b v low e = omega arith
+  joined_by Within a b v low e = omega arith
+
+  least_is : (e : Expression) (v : ℕ) → expression_value c store e ≡ Some v → least_value least e ≤ v
+  least_is (Number n) v e = let same : n ≡ v = same_Some n v e in omega (arith, same)
+  least_is (Private k) v e = omega arith
+  least_is Me v e = omega arith
+  least_is Procs v e = let same : c.procs ≡ v = same_Some c.procs v e in omega (arith, same, many)
+  least_is Limit v e = omega arith
+  least_is (Joined' o p a q b) v e = joined_by o a b v (λ x f. least_is a x f) e
+
+fitting_le : (n m v : ℕ) → n ≤ m → fitting (nat_le n m) v ≡ None → ⊥
+fitting_le n m v low e = let h : fitting true v ≡ None = ap (λ b. fitting b v) (sym (le-leb n m low)) ∙ e in cc
+
+-- a loop from a number up to no less a value has a round
+up_some : (least : ℕ) (a b : Expression) (c : Constants) → has_round least (Up a b) ≡ true → least ≤ c.procs → first_number c (Up a b) ≡ Some None → ⊥
+up_some least (Number n) b c r many e = on (end_value c b) refl e
+  where
+    on : (o : Option ℕ) → end_value c b ≡ o → option_and_then (λ y. Some (fitting (nat_le n y) n)) o ≡ Some None → ⊥
+    on None f e = cc
+    on (Some y) f e =
+        let h = leb-true n (least_value least b) r in
+        let k = least_is least c (replicate 32 0) many b y f in
+        fitting_le n y n (omega (arith, h, k)) (same_Some (fitting (nat_le n y) n) None e)
+up_some least (Private k) b c r many e = absurd (cc)
+up_some least Me b c r many e = absurd (cc)
+up_some least Procs b c r many e = absurd (cc)
+up_some least Limit b c r many e = absurd (cc)
+up_some least (Joined' o p x q y) b c r many e = absurd (cc)
+
+-- so has one down to a number
+down_some : (least : ℕ) (a b : Expression) (c : Constants) → has_round least (Down a b) ≡ true → least ≤ c.procs → first_number c (Down a b) ≡ Some None → ⊥
+down_some least a (Number n) c r many e = on (end_value c a) refl e
+  where
+    on : (o : Option ℕ) → end_value c a ≡ o → option_and_then (λ x. Some (fitting (nat_le n x) x)) o ≡ Some None → ⊥
+    on None f e = cc
+    on (Some x) f e =
+        let h = leb-true n (least_value least a) r in
+        let k = least_is least c (replicate 32 0) many a x f in
+        fitting_le n x x (omega (arith, h, k)) (same_Some (fitting (nat_le n x) x) None e)
+down_some least a (Private k) c r many e = absurd (cc)
+down_some least a Me c r many e = absurd (cc)
+down_some least a Procs c r many e = absurd (cc)
+down_some least a Limit c r many e = absurd (cc)
+down_some least a (Joined' o p x q y) c r many e = absurd (cc)
+
+-- a loop that has a round in each world has a first number
+first_some : (least : ℕ) (members : Members) (c : Constants) → has_round least members ≡ true → c.me < c.procs → least ≤ c.procs → first_number c members ≡ Some None → ⊥
+first_some least All c r own many e = fitting_some 0 c.procs (omega arith) (same_Some (least_from c All 0) None e)
+first_some least Others c r own many e = let two : 2 ≤ least = leb-true 2 least r in others_some c own (omega arith) (same_Some (least_from c Others 0) None e)
+first_some least Lower c r own many e = absurd (cc)
+first_some least Higher c r own many e = absurd (cc)
+first_some least (Up a b) c r own many e = up_some least a b c r many e
+first_some least (Down a b) c r own many e = down_some least a b c r many e
 
 or_first : (a b : Bool) → a || b ≡ true → (a ≡ true → ⊥) → b ≡ true
 or_first true b h never = absurd (never refl)
@@ -75,15 +160,16 @@ goes_a_way test least next c s t (Branch condition otherwise) own many w e =
     (λ b f. some_lands test (at_place (cond b next otherwise) s) t f
     (elim b as (λ v. test (cond v next otherwise) ≡ true) [ true ↦ left_of (test next) (test otherwise) w | false ↦ right_of (test next) (test otherwise) w ]))
 goes_a_way test least next c s t (First name members after) own many w e =
-    some_lands test (round_at name next after s (least_from c members 0)) t e
-    (round_lands test name next after s (least_from c members 0) (left_of (test next) (has_round least members || test after) w)
+    bind_got test (first_number c members) (λ m. Some (round_at name next after s m)) t e
+    (λ m got f. some_lands test (round_at name next after s m) t f
+    (round_lands test name next after s m (left_of (test next) (has_round least members || test after) w)
     (λ none. or_first (has_round least members) (test after) (right_of (test next) (has_round least members || test after) w)
-    (λ r. first_member least members c r own many none)))
+    (λ r. first_some least members c r own many (got ∙ ap Some none)))))
 goes_a_way test least next c s t (Next name members body) own many w e =
-    bind_lands test (slice_get s.store name) (λ j. option_and_then (λ further. Some (round_at name body next s (least_from c members further))) (fitting (nat_lt (j + 1) (2 ^ 64)) (j + 1))) t e
-    (λ j f. bind_lands test (fitting (nat_lt (j + 1) (2 ^ 64)) (j + 1)) (λ further. Some (round_at name body next s (least_from c members further))) t f
-    (λ further g. some_lands test (round_at name body next s (least_from c members further)) t g
-    (round_lands test name body next s (least_from c members further) (left_of (test body) (test next) w) (λ none. right_of (test body) (test next) w))))
+    bind_lands test (slice_get s.store name) (λ j. option_and_then (λ m. Some (round_at name body next s m)) (number_after c members j)) t e
+    (λ j f. bind_lands test (number_after c members j) (λ m. Some (round_at name body next s m)) t f
+    (λ m g. some_lands test (round_at name body next s m) t g
+    (round_lands test name body next s m (left_of (test body) (test next) w) (λ none. right_of (test body) (test next) w))))
 
 -- the line at a place that is below a rank
 line_below : (ranks : List ℕ) (rank place : ℕ) (o : Option AlgorithmLine) → is_line_below ranks rank place o ≡ true

@@ -1,8 +1,10 @@
 -- The accesses of a process: which word it loads, stores or swaps next, and what the value does to its names.
 use Rattle.std.specs.Prelude.{ℕ, ◌-◌, ◌^◌, nat_lt, nat_le, Bool, true, false, if◌then◌else◌, List, slice_get, slice_set, Option, Some, None}
+use Rattle.algorithms.specs.Extents.{places_end}
 use Rattle.algorithms.specs.Values.{expression_value, holds, fitting, ◌>>=◌}
 use Rattle.algorithms.specs.declared.access.WordAccess.{WordAccess}
 use Rattle.algorithms.specs.declared.algorithm.Declaration.{Declaration}
+use Rattle.algorithms.specs.declared.algorithm.Extent.{Extent}
 use Rattle.algorithms.specs.declared.condition.Condition.{Condition}
 use Rattle.algorithms.specs.declared.constants.Constants.{Constants}
 use Rattle.algorithms.specs.declared.expression.Expression.{Expression}
@@ -10,12 +12,12 @@ use Rattle.algorithms.specs.declared.line.AccessLine.{AccessLine}
 use Rattle.algorithms.specs.declared.line.Action.{Action}
 use Rattle.algorithms.specs.declared.line.Action.TheVariants.{Load, Store, Await, Swap}
 
--- which of a declaration's words: the first where it has one, else the one of a process
-abbrev pub index_of : Constants → List ℕ → Option Expression → Option ℕ
-index_of c store None = Some 0
-index_of c store (Some index) = do
+-- which of a declaration's words: the first where it has one, else the one at a place
+abbrev pub index_of : Constants → List ℕ → Extent → Option Expression → Option ℕ
+index_of c store extent None = Some 0
+index_of c store extent (Some index) = do
   i ← expression_value c store index
-  fitting (nat_lt i c.procs) i
+  fitting (nat_lt i (places_end c.procs c.limit extent)) i
 
 -- the greatest value that may be stored
 abbrev pub bound_of : Constants → List ℕ → Option Expression → Option ℕ
@@ -43,7 +45,7 @@ is_swap (Swap name value guard until) = true
 abbrev pub access_of : List Declaration → Constants → List ℕ → AccessLine → Option WordAccess
 access_of declarations c store line = do
   declaration ← slice_get declarations line.word.declaration
-  i ← index_of c store line.word.index
+  i ← index_of c store declaration.extent line.word.index
   stores ← value_stored c store declaration line.action
   Some (record { address = record { declaration = line.word.declaration; index = i }; stores = stores; swaps = is_swap line.action })
 

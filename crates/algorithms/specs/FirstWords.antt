@@ -1,11 +1,11 @@
 -- The words of a world at its beginning.
-use Rattle.std.specs.Prelude.{ℕ, zero, suc, min, Bool, true, ◌&&◌, if◌then◌else◌, List, [], ◌∷◌, ◌++◌, drop, length, replicate, slice_get, Option, Some, None, is_some, option_and_then}
+use Rattle.std.specs.Prelude.{ℕ, zero, suc, min, Bool, true, ◌&&◌, List, [], ◌∷◌, ◌++◌, drop, length, replicate, slice_get, Option, Some, None, is_some, option_and_then}
 use Rattle.algorithms.specs.Accesses.{value_stored}
+use Rattle.algorithms.specs.Extents.{constants_at, or_zero, extent_length, owner_at, has_size}
 use Rattle.algorithms.specs.Values.{expression_value}
 use Rattle.algorithms.specs.declared.algorithm.Algorithm.{Algorithm}
 use Rattle.algorithms.specs.declared.algorithm.Declaration.{Declaration}
 use Rattle.algorithms.specs.declared.algorithm.NamedConstant.{NamedConstant}
-use Rattle.algorithms.specs.declared.constants.Constants.{Constants}
 use Rattle.algorithms.specs.declared.expression.Expression.{Expression}
 use Rattle.algorithms.specs.declared.first_rows.FirstRows.{FirstRows}
 use Rattle.algorithms.specs.declared.first_values.FirstValues.{FirstValues}
@@ -30,29 +30,22 @@ all_below test (suc n) = all_below test n && test n
 
 -- ---- first values
 
--- what the first value of a word is made of: its index, which is `me` there, and the sizes
-abbrev pub constants_at : ℕ → ℕ → ℕ → Constants
-constants_at procs limit i = record { me = i; procs = procs; limit = limit }
-
--- the value of a word at the beginning, by its index: what a store of it would store. None: it is out of range, or above the bound
+-- the value of a word at the beginning, by its place: what a store of it would store. None: it is out of range, or above the bound
 abbrev pub first_value : ℕ → ℕ → Declaration → Expression → ℕ → Option ℕ
 first_value procs limit d value i =
-    option_and_then (λ stored. stored) (value_stored (constants_at procs limit i) (replicate 32 0) d (Store value))
+    option_and_then (λ stored. stored)
+    (value_stored (constants_at procs limit (owner_at procs limit d.extent i)) (replicate 32 0) d (Store value))
 
 -- how many words a declaration has, at most 64
-abbrev pub declaration_size : ℕ → Declaration → ℕ
-declaration_size procs d = if d.each then min procs 64 else 1
-
-abbrev pub or_zero : Option ℕ → ℕ
-or_zero None = 0
-or_zero (Some v) = v
+abbrev pub declaration_size : ℕ → ℕ → Declaration → ℕ
+declaration_size procs limit d = min (extent_length procs limit d.extent) 64
 
 -- a row of 64 values: the first values of the words, and 0 after them. All are 0 where no first value is said
 abbrev pub row_of_values : ℕ → ℕ → Declaration → Option Expression → List ℕ
 row_of_values procs limit d None = replicate 64 0
 row_of_values procs limit d (Some value) =
-    values_to (λ i. or_zero (first_value procs limit d value i)) (declaration_size procs d)
-    ++ drop (declaration_size procs d) (replicate 64 0)
+    values_to (λ i. or_zero (first_value procs limit d value i)) (declaration_size procs limit d)
+    ++ drop (declaration_size procs limit d) (replicate 64 0)
 
 -- the row of a declaration, by the first value of its words
 abbrev pub first_row : ℕ → ℕ → Option Declaration → Option (Option Expression) → List ℕ
@@ -75,7 +68,7 @@ first_rows a procs limit (Some v) = Some (rows_said a procs limit v)
 -- each word of a declaration has a first value
 abbrev pub has_values : ℕ → ℕ → Declaration → Option Expression → Bool
 has_values procs limit d None = true
-has_values procs limit d (Some value) = all_below (λ i. is_some (first_value procs limit d value i)) (declaration_size procs d)
+has_values procs limit d (Some value) = all_below (λ i. is_some (first_value procs limit d value i)) (declaration_size procs limit d)
 
 abbrev pub has_row : ℕ → ℕ → Option Declaration → Option (Option Expression) → Bool
 has_row procs limit None start = true
@@ -95,10 +88,18 @@ has_constant procs limit (Some constant) = is_some (expression_value (constants_
 abbrev pub has_constants : Algorithm → ℕ → ℕ → Bool
 has_constants a procs limit = all_below (λ k. has_constant procs limit (slice_get a.constants.items k)) (length a.constants.items)
 
--- where first values are said, each constant has a value at these sizes, and each word a first one
+-- the size of an array is one of these worlds
+abbrev pub has_extent : ℕ → ℕ → Option Declaration → Bool
+has_extent procs limit None = true
+has_extent procs limit (Some d) = has_size procs limit d.extent
+
+abbrev pub has_extents : Algorithm → ℕ → ℕ → Bool
+has_extents a procs limit = all_below (λ k. has_extent procs limit (slice_get a.declarations.items k)) (length a.declarations.items)
+
+-- where first values are said, each constant has a value at these sizes, each array has words, and each word a first value
 abbrev pub has_all_values : Algorithm → ℕ → ℕ → Option FirstValues → Bool
 has_all_values a procs limit None = true
-has_all_values a procs limit (Some v) = has_constants a procs limit && has_first_words a procs limit v
+has_all_values a procs limit (Some v) = has_constants a procs limit && (has_extents a procs limit && has_first_words a procs limit v)
 
 -- ---- the rows of a world
 

@@ -1,10 +1,13 @@
 pub mod Values
 pub mod LocalRuns
 pub mod Arrivals
+pub mod Extents
 pub mod Accesses
 pub mod Steps
 pub mod FirstWords
+pub mod Homes
 pub mod Worlds
 pub mod Faults
 pub mod Ranked
 pub mod Deeds
+pub mod remote_references

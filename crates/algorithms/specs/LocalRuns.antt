@@ -1,10 +1,11 @@
 -- The local lines of a process: what it does between two accesses, as a function of its names and its place.
-use Rattle.std.specs.Prelude.{ℕ, ◌+◌, ◌^◌, max, nat_lt, nat_eq, if◌then◌else◌, slice_get, slice_set, Option, Some, None}
+use Rattle.std.specs.Prelude.{ℕ, ◌+◌, ◌-◌, ◌^◌, max, nat_lt, nat_le, nat_eq, if◌then◌else◌, replicate, slice_get, slice_set, Option, Some, None}
 use Rattle.algorithms.specs.Values.{expression_value, holds, fitting, ◌>>=◌}
 use Rattle.algorithms.specs.declared.constants.Constants.{Constants}
+use Rattle.algorithms.specs.declared.expression.Expression.{Expression}
 use Rattle.algorithms.specs.declared.line.AlgorithmDeed.{AlgorithmDeed}
 use Rattle.algorithms.specs.declared.line.Members.{Members}
-use Rattle.algorithms.specs.declared.line.Members.TheVariants.{All, Others, Lower, Higher}
+use Rattle.algorithms.specs.declared.line.Members.TheVariants.{All, Others, Lower, Higher, Up, Down}
 use Rattle.algorithms.specs.declared.line.LocalLine.{LocalLine}
 use Rattle.algorithms.specs.declared.line.LocalLine.TheVariants.{Assign, Note, Goto, Branch, First, Next}
 use Rattle.algorithms.specs.declared.noted.NotedDeeds.{NotedDeeds}
@@ -29,17 +30,59 @@ member_from c All from = from
 member_from c Others from = if nat_eq from c.me then from + 1 else from
 member_from c Lower from = from
 member_from c Higher from = max from (c.me + 1)
+member_from c (Up a b) from = from
+member_from c (Down a b) from = from
 
--- the end of a set of processes
+-- the end of a set of processes. Numbers are no processes
 abbrev pub end_of : Constants → Members → ℕ
 end_of c Lower = c.me
 end_of c All = c.procs
 end_of c Others = c.procs
 end_of c Higher = c.procs
+end_of c (Up a b) = 0
+end_of c (Down a b) = 0
 
 -- the least process of a set that is not below a number
 abbrev pub least_from : Constants → Members → ℕ → Option ℕ
 least_from c members from = fitting (nat_lt (member_from c members from) (end_of c members)) (member_from c members from)
+
+-- the value of an end of a loop, which has no private name
+abbrev pub end_value : Constants → Expression → Option ℕ
+end_value c end = expression_value c (replicate 32 0) end
+
+-- the least process of a set after this one. None as a whole: its number has none after it
+abbrev pub further_from : Constants → Members → ℕ → Option (Option ℕ)
+further_from c members j = do
+  further ← fitting (nat_lt (j + 1) (2 ^ 64)) (j + 1)
+  Some (least_from c members further)
+
+-- the first number of a loop: some, or that there is none. None as a whole: an end has no value
+abbrev pub first_number : Constants → Members → Option (Option ℕ)
+first_number c All = Some (least_from c All 0)
+first_number c Others = Some (least_from c Others 0)
+first_number c Lower = Some (least_from c Lower 0)
+first_number c Higher = Some (least_from c Higher 0)
+first_number c (Up a b) = do
+  x ← end_value c a
+  y ← end_value c b
+  Some (fitting (nat_le x y) x)
+first_number c (Down a b) = do
+  x ← end_value c a
+  y ← end_value c b
+  Some (fitting (nat_le y x) x)
+
+-- the number of a loop after this one
+abbrev pub number_after : Constants → Members → ℕ → Option (Option ℕ)
+number_after c All j = further_from c All j
+number_after c Others j = further_from c Others j
+number_after c Lower j = further_from c Lower j
+number_after c Higher j = further_from c Higher j
+number_after c (Up a b) j = do
+  y ← end_value c b
+  Some (fitting (nat_lt j y) (j + 1))
+number_after c (Down a b) j = do
+  y ← end_value c b
+  Some (fitting (nat_lt y j) (j - 1))
 
 abbrev pub at_place : ℕ → LocalState → LocalState
 at_place at s = record { at = at; store = s.store; noted = s.noted }
@@ -69,8 +112,10 @@ local_line_done c next (Goto place) s = Some (at_place place s)
 local_line_done c next (Branch condition otherwise) s = do
   b ← holds c s.store condition
   Some (at_place (if b then next else otherwise) s)
-local_line_done c next (First name members after) s = Some (round_at name next after s (least_from c members 0))
+local_line_done c next (First name members after) s = do
+  member ← first_number c members
+  Some (round_at name next after s member)
 local_line_done c next (Next name members body) s = do
   j ← slice_get s.store name
-  further ← fitting (nat_lt (j + 1) (2 ^ 64)) (j + 1)
-  Some (round_at name body next s (least_from c members further))
+  member ← number_after c members j
+  Some (round_at name body next s member)

@@ -1,8 +1,11 @@
 -- Local lines that fall: each leads on to an access, to an end, or to a local line of lower rank. So no run of them goes round.
-use Rattle.std.specs.Prelude.{◌≡◌, ℕ, ◌+◌, ◌<◌, ◌≤◌, nat_le, nat_lt, Bool, true, false, ◌&&◌, ◌||◌, List, length, slice_get, slice_index, Option, Some, None, Err}
+use Rattle.std.specs.Prelude.{◌≡◌, ℕ, ◌+◌, ◌-◌, ◌<◌, ◌≤◌, nat_le, nat_lt, Bool, true, false, ◌&&◌, ◌||◌, List, length, slice_get, slice_index, Option, Some, None, Err}
 use Rattle.algorithms.specs.Arrivals.{arrives}
 use Rattle.algorithms.specs.declared.algorithm.Algorithm.{Algorithm}
 use Rattle.algorithms.specs.declared.constants.Constants.{Constants}
+use Rattle.algorithms.specs.declared.expression.Expression.{Expression, Number, Private, Me, Procs, Limit, Joined'}
+use Rattle.algorithms.specs.declared.expression.Operator.{Operator}
+use Rattle.algorithms.specs.declared.expression.Operator.TheVariants.{Sum, Difference, Product, Quotient, Remainder, Maximum, Minimum, Within}
 use Rattle.algorithms.specs.declared.line.AccessLine.{AccessLine}
 use Rattle.algorithms.specs.declared.line.LineKind.{LineKind}
 use Rattle.algorithms.specs.declared.line.LineKind.TheVariants.{Access, Local, Done}
@@ -10,7 +13,7 @@ use Rattle.algorithms.specs.declared.line.AlgorithmLine.{AlgorithmLine}
 use Rattle.algorithms.specs.declared.line.LocalLine.{LocalLine}
 use Rattle.algorithms.specs.declared.line.LocalLine.TheVariants.{Assign, Note, Goto, Branch, First, Next}
 use Rattle.algorithms.specs.declared.line.Members.{Members}
-use Rattle.algorithms.specs.declared.line.Members.TheVariants.{All, Others, Lower, Higher}
+use Rattle.algorithms.specs.declared.line.Members.TheVariants.{All, Others, Lower, Higher, Up, Down}
 use Rattle.algorithms.specs.declared.local.LocalState.{LocalState}
 use Rattle.algorithms.specs.declared.refusal.AlgorithmRefusal.TheVariants.{Malformed}
 
@@ -28,12 +31,52 @@ is_line_below ranks rank place (Some line) = nat_lt (rank_of (slice_index ranks 
 abbrev pub is_below : List AlgorithmLine → List ℕ → ℕ → ℕ → Bool
 is_below lines ranks rank place = is_line_below ranks rank place (slice_get lines place)
 
--- whether a loop over these processes has a round in each world of an algorithm for so few processes at least
+-- ---- which loops have a round
+
+-- a number that is written as one
+abbrev pub literal_of : Expression → Option ℕ
+literal_of (Number n) = Some n
+literal_of (Private k) = None
+literal_of Me = None
+literal_of Procs = None
+literal_of Limit = None
+literal_of (Joined' o p a q b) = None
+
+abbrev pub less_by : ℕ → Option ℕ → ℕ
+less_by x None = 0
+less_by x (Some k) = x - k
+
+abbrev pub least_joined : Operator → ℕ → Option ℕ → ℕ
+least_joined Difference x k = less_by x k
+least_joined Sum x k = 0
+least_joined Product x k = 0
+least_joined Quotient x k = 0
+least_joined Remainder x k = 0
+least_joined Maximum x k = 0
+least_joined Minimum x k = 0
+least_joined Within x k = 0
+
+-- a value is not below this number where there are at least so few processes
+abbrev pub least_value : ℕ → Expression → ℕ
+least_value least (Number n) = n
+least_value least (Private k) = 0
+least_value least Me = 0
+least_value least Procs = least
+least_value least Limit = 0
+least_value least (Joined' o p a q b) = least_joined o (least_value least a) (literal_of b)
+
+abbrev pub is_at_most : Option ℕ → ℕ → Bool
+is_at_most None y = false
+is_at_most (Some x) y = nat_le x y
+
+-- whether a loop over these has a round in each world of an algorithm for so few processes at least
 abbrev pub has_round : ℕ → Members → Bool
 has_round least All = true
 has_round least Others = nat_le 2 least
 has_round least Lower = false
 has_round least Higher = false
+has_round least (Up a b) = is_at_most (literal_of a) (least_value least b)
+has_round least (Down a b) = is_at_most (literal_of b) (least_value least a)
 
 -- whether all places to which a local line may lead pass the test, with the place of the line after it
 abbrev pub ways_pass : (ℕ → Bool) → ℕ → ℕ → LocalLine → Bool

@@ -4,7 +4,7 @@ use Rattle.std.specs.Ordering.{nat_cmp, ordering_then, is_eq, is_ne, is_lt, is_l
 use Rattle.std.specs.declared.cmp.Ordering.{Ordering}
 use Rattle.algorithms.specs.declared.constants.Constants.{Constants}
 use Rattle.algorithms.specs.declared.expression.Operator.{Operator}
-use Rattle.algorithms.specs.declared.expression.Operator.TheVariants.{Sum, Difference, Product, Quotient, Remainder, Maximum, Minimum}
+use Rattle.algorithms.specs.declared.expression.Operator.TheVariants.{Sum, Difference, Product, Quotient, Remainder, Maximum, Minimum, Within}
 use Rattle.algorithms.specs.declared.expression.Expression.{Expression, Number, Private, Me, Procs, Limit, Joined'}
 use Rattle.algorithms.specs.declared.condition.Comparison.{Comparison}
 use Rattle.algorithms.specs.declared.condition.Comparison.TheVariants.{Equal, NotEqual, Less, AtMost, Greater, AtLeast}
@@ -28,6 +28,7 @@ operation_value Quotient a b = fitting (nat_lt 0 b) (a / b)
 operation_value Remainder a b = fitting (nat_lt 0 b) (a % b)
 operation_value Maximum a b = Some (max a b)
 operation_value Minimum a b = Some (min a b)
+operation_value Within a b = fitting (nat_lt a b) a
 
 -- a value, with these constants and values of the private names
 abbrev pub expression_value : Constants → List ℕ → Expression → Option ℕ

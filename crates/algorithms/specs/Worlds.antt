@@ -1,5 +1,6 @@
 -- The worlds of an algorithm, and what a start, a step and a crash of a process make of them.
 use Rattle.std.specs.Prelude.{ℕ, ◌^◌, nat_lt, nat_le, Bool, false, ◌&&◌, if◌then◌else◌, List, length, replicate, slice_get, slice_set, Option, Some, None, Result, Ok, Err, ok_or}
+use Rattle.algorithms.specs.Accesses.{access_of}
 use Rattle.algorithms.specs.Arrivals.{arrives, line_at, ◌>>=◌}
 use Rattle.algorithms.specs.FirstWords.{first_rows, has_all_values, rows_at_beginning}
 use Rattle.algorithms.specs.LocalRuns.{nothing_noted}
@@ -7,6 +8,7 @@ use Rattle.algorithms.specs.Steps.{lasting_names, step_before_access, advance_of
 use Rattle.algorithms.specs.declared.access.Address.{Address}
 use Rattle.algorithms.specs.declared.access.Advanced.{Advanced}
 use Rattle.algorithms.specs.declared.access.Taken.{Taken}
+use Rattle.algorithms.specs.declared.access.WordAccess.{WordAccess}
 use Rattle.algorithms.specs.declared.algorithm.Algorithm.{Algorithm}
 use Rattle.algorithms.specs.declared.algorithm.AlgorithmCall.{AlgorithmCall}
 use Rattle.algorithms.specs.declared.algorithm.AlgorithmCall.TheVariants.{Lock, Unlock, Recover, Withdraw}
@@ -21,7 +23,7 @@ use Rattle.algorithms.specs.declared.process.AlgorithmPlace.{AlgorithmPlace}
 use Rattle.algorithms.specs.declared.process.AlgorithmPlace.TheVariants.{Rest, Dead, At}
 use Rattle.algorithms.specs.declared.process.AlgorithmProcess.{AlgorithmProcess}
 use Rattle.algorithms.specs.declared.refusal.AlgorithmRefusal.{AlgorithmRefusal}
-use Rattle.algorithms.specs.declared.refusal.AlgorithmRefusal.TheVariants.{BadProcs, BadLimit, NoSuchProcess, CallUnderWay, NothingToDo, NotWaiting, NoSuchCall, Malformed, OutOfMemory}
+use Rattle.algorithms.specs.declared.refusal.AlgorithmRefusal.TheVariants.{BadProcs, BadLimit, NoSuchProcess, CallUnderWay, NothingToDo, NotWaiting, NoSuchCall, OutOfRange, Malformed, OutOfMemory}
 
 -- a world: its algorithm and sizes, the rows of words that first values gave it, where some are said, a row of shared words for each
 -- declaration, and the processes
@@ -58,7 +60,7 @@ first_world a procs limit = world_of_rows a.algorithm procs limit (first_rows a.
 abbrev pub world_at_beginning : AlgorithmWorldState → AlgorithmWorldState
 world_at_beginning w = record w { words = rows_at_beginning w.first_rows (length w.words); processes = replicate (length w.processes) resting }
 
--- the refusal of sizes for which a constant or a first value has no value
+-- the refusal of sizes for which a constant, a first value or an array has no value
 abbrev pub value_refusal : InitializedAlgorithm → ℕ → ℕ → Option AlgorithmRefusal
 value_refusal a procs limit = if has_all_values a.algorithm procs limit a.first_values then None else Some BadProcs
 
@@ -140,6 +142,14 @@ advance_in_world s = Ok (advance_of s.0, s.1)
 
 abbrev pub advance : AlgorithmWorldState → ℕ → Result (Advanced × AlgorithmWorldState) AlgorithmRefusal
 advance w p = step w p >>= advance_in_world
+
+-- the access that a process makes next, before its word is read
+abbrev pub next_access : AlgorithmWorldState → ℕ → Result WordAccess AlgorithmRefusal
+next_access w p = do
+  process ← process_of w p
+  at ← under_way process.place
+  line ← access_at w.algorithm at
+  ok_or (access_of w.algorithm.declarations.items (constants_of w p) process.store line) (OutOfRange at)
 
 -- where a call begins
 abbrev pub entry_of : Entries → AlgorithmCall → Option ℕ

@@ -6,7 +6,7 @@ ghost use Rattle.algorithms.specs.declared.line.Action.TheVariants.{Store as Sto
 ghost use Rattle.algorithms.specs.LocalRuns.{nothing_noted};
 ghost use Rattle.algorithms.specs.Steps.{goes_on, value_of, step_before_access, process_stopped_at, move_to_state, step_from};
 
-use crate::algorithm::{Algorithm, Declaration};
+use crate::algorithm::{Algorithm, Declaration, Extent};
 use crate::condition::Condition;
 use crate::constants::{Constants, MOST_PROCS};
 use crate::expression::{Expression, NAMES};
@@ -55,14 +55,19 @@ pub struct Moved {
 }
 
 /// Which of a declaration's words a line names. None: the index has no value, or there is no such word.
-fn index_of(word: &WordOf, constants: Constants, store: &[u64; NAMES]) -> Option<u64>
-    ensures { result ≡ index_of constants store.now word.now.index }
+fn index_of(
+    word: &WordOf,
+    extent: &Extent,
+    constants: Constants,
+    store: &[u64; NAMES],
+) -> Option<u64>
+    ensures { result ≡ index_of constants store.now extent.now word.now.index }
 {
     match &word.index {
         None => Some(0),
         Some(index) => {
             let index = index.evaluate(constants, store)?;
-            if index < constants.procs {
+            if index < extent.places_end(constants.procs, constants.limit) {
                 Some(index)
             } else {
                 None
@@ -159,7 +164,7 @@ impl AccessLine {
         ensures { result ≡ access_of declarations.now constants store.now self.now }
     {
         let declaration = declarations.get(self.word.declaration)?;
-        let index = index_of(&self.word, constants, store)?;
+        let index = index_of(&self.word, &declaration.extent, constants, store)?;
         let stores = value_stored(declaration, &self.action, constants, store)?;
         let declaration = self.word.declaration;
         Some(WordAccess {

@@ -3,6 +3,7 @@
 ghost use Rattle.std.specs.Prelude.{◌≡◌};
 ghost use Rattle.algorithms.specs.Worlds.{entry_of};
 
+use crate::access::Address;
 use crate::expression::Expression;
 use crate::line::AlgorithmLine;
 
@@ -13,6 +14,12 @@ pub struct Promises {
     pub reentry: bool,
     /// First come, first served.
     pub order: bool,
+    /// The most own steps of an `unlock`, where they are bounded.
+    pub exit: Option<u64>,
+    /// The most own steps of a `lock` after a crash inside, up to the re-entry, where they are bounded.
+    pub recovery: Option<u64>,
+    /// The most own steps of a doorway, where they are bounded.
+    pub doorway: Option<u64>,
 }
 
 /// A constant of a text: a name for a value of numbers, `procs` and `limit`. Where it stood in a line, its value stands there.
@@ -22,13 +29,27 @@ pub struct NamedConstant {
     pub value: Expression,
 }
 
-/// A shared word, or one for each process.
+/// How many words a declaration has.
+#[derive(Debug, Drop)]
+pub enum Extent {
+    One,
+    /// One for each process.
+    Each,
+    /// An array `[A]` of this size.
+    Array(Expression),
+    /// A table `[A][B]` of this size, A times B, and the B words of each of its rows, one row after the other.
+    Table(Expression, Expression),
+}
+
+/// A shared word, or an array of them.
 #[derive(Debug, Drop)]
 pub struct Declaration {
     pub name: String,
-    pub each: bool,
+    pub extent: Extent,
     /// The greatest value that may be stored. 2^64 - 1 where there is none.
     pub bound: Option<Expression>,
+    /// The process at which a word lives, where it is said. `Me` is the first index of the word there.
+    pub home: Option<Expression>,
 }
 
 /// A call of a process.

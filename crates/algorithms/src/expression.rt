@@ -18,6 +18,8 @@ pub enum Operator {
     Remainder,
     Maximum,
     Minimum,
+    /// The left value where it is below the right one. The reader makes it of a second index; no sign spells it.
+    Within,
 }
 
 /// A value of an algorithm.
@@ -47,6 +49,7 @@ impl Operator {
             Operator::Remainder => left.checked_rem(right),
             Operator::Maximum => Some(left.max(right)),
             Operator::Minimum => Some(left.min(right)),
+            Operator::Within => { if left < right { Some(left) } else { None } }
         }
     }
 }

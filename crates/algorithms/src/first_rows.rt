@@ -22,7 +22,10 @@ const RESTING: AlgorithmProcess = AlgorithmProcess {
 };
 
 /// As many rows of words as there are declarations, with each word 0.
-fn all_zero(alloc: Global, count: usize) -> Result<Vec<[u64; MOST_PROCS]>, AlgorithmRefusal>
+pub(crate) fn all_zero(
+    alloc: Global,
+    count: usize,
+) -> Result<Vec<[u64; MOST_PROCS]>, AlgorithmRefusal>
     ensures rows { IfOk result (λ rows. rows.items ≡ replicate count (replicate 64 0)) }
     ensures memory { IfErr result (λ e. e ≡ AlgorithmRefusal.OutOfMemory) }
 {
@@ -88,7 +91,7 @@ pub fn all_at_rest(alloc: Global, count: usize) -> Result<Vec<AlgorithmProcess>,
 
 /// Sets each word of these rows to 0.
 #[tactic(auto, using(crate::proofs::Worlds::set_next))]
-fn zero_all(rows: &mut [[u64; MOST_PROCS]])
+pub(crate) fn zero_all(rows: &mut [[u64; MOST_PROCS]])
     ensures { rows.new ≡ replicate (length rows.old) (replicate 64 0) }
 {
     for row in 0..rows.len() {

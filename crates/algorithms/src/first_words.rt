@@ -1,44 +1,42 @@
 //! The words of a world at its beginning, by the first values that are said.
 
 ghost use Rattle.std.specs.Prelude.{◌≡◌, ◌≤◌, Some, IfOk, IfErr, slice_get};
-ghost use Rattle.algorithms.specs.FirstWords.{declaration_size, first_value, or_zero, row_of_values, first_row, rows_said, held_rows, first_rows, has_values, has_row, has_first_words, has_constant, has_constants, has_all_values};
+ghost use Rattle.algorithms.specs.FirstWords.{declaration_size, first_value, row_of_values, first_row, rows_said, held_rows, first_rows, has_values, has_row, has_first_words, has_constant, has_constants, has_extent, has_extents, has_all_values};
 
 use crate::access::value_within;
 use crate::algorithm::{Algorithm, Declaration};
 use crate::constants::{Constants, MOST_PROCS};
 use crate::expression::{Expression, NAMES};
+use crate::extents::or_zero;
 use crate::first_rows::FirstRows;
 use crate::first_values::FirstValues;
 use crate::refusal::AlgorithmRefusal;
 use std::alloc::Global;
 
 /// How many words a declaration has, at most 64.
-fn declaration_size(declaration: &Declaration, procs: u64) -> u64
-    ensures count { result ≡ declaration_size procs declaration.now }
+fn declaration_size(declaration: &Declaration, procs: u64, limit: u64) -> u64
+    ensures count { result ≡ declaration_size procs limit declaration.now }
     ensures few { result ≤ 64 }
 {
-    if declaration.each {
-        procs.min(MOST_PROCS as u64)
-    } else {
-        1
-    }
+    declaration
+        .extent
+        .length(procs, limit)
+        .min(MOST_PROCS as u64)
 }
 
-/// The first value of a word, by its index, which is `me` here. `None`: it is out of range, or above the bound.
-fn first_value(declaration: &Declaration, value: &Expression, constants: Constants) -> Option<u64>
-    ensures { result ≡ first_value constants.procs constants.limit declaration.now value.now constants.me }
+/// The first value of the word at a place. `None`: it is out of range, or above the bound.
+fn first_value(
+    declaration: &Declaration,
+    value: &Expression,
+    place: u64,
+    procs: u64,
+    limit: u64,
+) -> Option<u64>
+    ensures { result ≡ first_value procs limit declaration.now value.now place }
 {
+    let me = declaration.extent.owner_at(place, procs, limit);
+    let constants = Constants { me, procs, limit };
     value_within(declaration, value, constants, &[0; NAMES])?
-}
-
-/// A value, or 0 where there is none.
-fn or_zero(value: Option<u64>) -> u64
-    ensures { result ≡ or_zero value }
-{
-    match value {
-        None => 0,
-        Some(value) => value,
-    }
 }
 
 /// A row with the first values of the words of a declaration, and 0 after them.
@@ -51,10 +49,8 @@ fn row_of_values(
     ensures { result ≡ row_of_values procs limit declaration.now (Some value.now) }
 {
     let mut row = [0; MOST_PROCS];
-    for index in 0..declaration_size(declaration, procs) {
-        let me = index;
-        let constants = Constants { me, procs, limit };
-        row[index as usize] = or_zero(first_value(declaration, value, constants));
+    for index in 0..declaration_size(declaration, procs, limit) {
+        row[index as usize] = or_zero(first_value(declaration, value, index, procs, limit));
     }
     row
 }
@@ -136,10 +132,8 @@ fn has_values(declaration: &Declaration, value: &Expression, procs: u64, limit: 
     ensures { result ≡ has_values procs limit declaration.now (Some value.now) }
 {
     let mut fit = true;
-    for index in 0..declaration_size(declaration, procs) {
-        let me = index;
-        let constants = Constants { me, procs, limit };
-        let is_there = first_value(declaration, value, constants).is_some();
+    for index in 0..declaration_size(declaration, procs, limit) {
+        let is_there = first_value(declaration, value, index, procs, limit).is_some();
         fit = fit && is_there;
     }
     fit
@@ -218,7 +212,30 @@ fn has_constants(algorithm: &Algorithm, procs: u64, limit: u64) -> bool
     fit
 }
 
-/// Whether each constant has a value at these sizes, and each word a first one, where first values are said.
+/// Whether the declaration at a place has words at these sizes.
+fn has_extent(algorithm: &Algorithm, place: usize, procs: u64, limit: u64) -> bool
+    ensures { result ≡ has_extent procs limit (slice_get algorithm.now.declarations.items place) }
+{
+    match algorithm.declarations.get(place) {
+        None => true,
+        Some(declaration) => declaration.extent.has_size(procs, limit),
+    }
+}
+
+/// Whether each declaration has words at these sizes.
+#[tactic(auto, using(crate::proofs::FirstWords::below_more))]
+fn has_extents(algorithm: &Algorithm, procs: u64, limit: u64) -> bool
+    ensures { result ≡ has_extents algorithm.now procs limit }
+{
+    let mut fit = true;
+    for place in 0..algorithm.declarations.len() {
+        let is_there = has_extent(algorithm, place, procs, limit);
+        fit = fit && is_there;
+    }
+    fit
+}
+
+/// Whether each constant has a value at these sizes, each array words, and each word a first value, where first values are said.
 pub fn has_all_values(
     algorithm: &Algorithm,
     values: &Option<FirstValues>,
@@ -231,7 +248,8 @@ pub fn has_all_values(
         None => true,
         Some(values) => {
             has_constants(algorithm, procs, limit)
-                && has_first_words(algorithm, values, procs, limit)
+                && (has_extents(algorithm, procs, limit)
+                    && has_first_words(algorithm, values, procs, limit))
         }
     }
 }

@@ -9,20 +9,25 @@ pub mod condition;
 pub mod constants;
 pub mod deeds;
 pub mod expression;
+pub mod extents;
 pub mod fault;
 mod first_rows;
 pub mod first_values;
 mod first_words;
+mod homes;
 pub mod line;
 mod local;
-pub mod loops;
 pub mod noted;
 pub mod process;
+mod process_step;
 pub mod refusal;
+pub mod remote_references;
 pub mod world;
 
 pub use access::{Address, Advanced, Moved, Taken, WordAccess};
-pub use algorithm::{Algorithm, AlgorithmCall, Declaration, Entries, NamedConstant, Promises};
+pub use algorithm::{
+    Algorithm, AlgorithmCall, Declaration, Entries, Extent, NamedConstant, Promises,
+};
 pub use condition::{Comparison, Condition, Pair};
 pub use constants::{Constants, MOST_PROCS};
 pub use expression::{Expression, NAMES, Operator};
@@ -34,4 +39,8 @@ pub use line::{
 pub use noted::NotedDeeds;
 pub use process::{AlgorithmPlace, AlgorithmProcess};
 pub use refusal::AlgorithmRefusal;
+pub use remote_references::copies::Copies;
+pub use remote_references::memory_event::MemoryEvent;
+pub use remote_references::memory_model::{MemoryModel, PassageKind};
+pub use remote_references::own_copies::OwnCopies;
 pub use world::{AlgorithmWorld, WorldCheckpoint};

@@ -14,8 +14,8 @@ pub enum AlgorithmDeed {
     Quit,
 }
 
-/// Which processes a loop goes over, by rising number.
-#[derive(Clone, Copy, Debug, PartialEq, Eq)]
+/// What a loop goes over: processes by rising number, or numbers.
+#[derive(Debug, Drop)]
 pub enum Members {
     All,
     /// All but the process itself.
@@ -24,13 +24,17 @@ pub enum Members {
     Lower,
     /// Those with a higher number.
     Higher,
+    /// The numbers from the first value up to the second. They name no private name.
+    Up(Expression, Expression),
+    /// The numbers from the first value down to the second. They name no private name.
+    Down(Expression, Expression),
 }
 
 /// A shared word: its declaration, and which of the declaration's words it is.
 #[derive(Debug, Drop)]
 pub struct WordOf {
     pub declaration: usize,
-    /// Where the declaration has a word for each process.
+    /// Its place, where the declaration has an array of words.
     pub index: Option<Expression>,
 }
 

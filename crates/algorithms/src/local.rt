@@ -1,11 +1,11 @@
 //! What a process does between two accesses. It is local and free, and it ends.
 
 ghost use Rattle.std.specs.Prelude.{◌≡◌, ◌<◌, Some, None, Ok, Err, IfOk, IfErr, IfSome, length, slice_set};
-ghost use Rattle.algorithms.specs.LocalRuns.{at_place, with_value, with_deed, least_from, round_at, local_line_done};
+ghost use Rattle.algorithms.specs.LocalRuns.{at_place, with_value, with_deed, least_from, end_value, first_number, number_after, round_at, local_line_done};
 ghost use Rattle.algorithms.specs.Arrivals.{local_step_at, arrives, landing, IsDone};
 
 use crate::constants::Constants;
-use crate::expression::NAMES;
+use crate::expression::{Expression, NAMES};
 use crate::line::{AlgorithmDeed, AlgorithmLine, LineKind, LocalLine, Members};
 use crate::noted::NotedDeeds;
 use crate::refusal::AlgorithmRefusal;
@@ -36,22 +36,81 @@ pub fn set_name(store: &mut [u64; NAMES], name: usize, value: u64)
     }
 }
 
+/// The value of an end of a loop.
+fn end_value(end: &Expression, constants: Constants) -> Option<u64>
+    ensures { result ≡ end_value constants end.now }
+{
+    end.evaluate(constants, &[0; NAMES])
+}
+
 impl Members {
-    /// The least process of the set that is not below `from`.
-    fn least_from(self, constants: Constants, from: u64) -> Option<u64>
+    /// The least process of the set that is not below `from`. Numbers are no processes.
+    fn least_from(&self, constants: Constants, from: u64) -> Option<u64>
         requires { constants.me < constants.procs }
-        ensures { result ≡ least_from constants self from }
+        ensures { result ≡ least_from constants self.now from }
     {
         let member = match self {
-            Members::All | Members::Lower => from,
+            Members::All | Members::Lower | Members::Up(..) | Members::Down(..) => from,
             Members::Others => { if from == constants.me { from + 1 } else { from } }
             Members::Higher => from.max(constants.me + 1),
         };
         let end = match self {
             Members::Lower => constants.me,
             Members::All | Members::Others | Members::Higher => constants.procs,
+            Members::Up(..) | Members::Down(..) => 0,
         };
         if member < end { Some(member) } else { None }
+    }
+
+    /// The first number of a loop, if there is one. None as a whole: an end has no value.
+    fn first_number(&self, constants: Constants) -> Option<Option<u64>>
+        requires { constants.me < constants.procs }
+        ensures { result ≡ first_number constants self.now }
+    {
+        match self {
+            Members::All | Members::Others | Members::Lower | Members::Higher => Some(
+                self.least_from(constants, 0),
+            ),
+            Members::Up(first, last) => {
+                let first = end_value(first, constants)?;
+                let last = end_value(last, constants)?;
+                Some(if first <= last { Some(first) } else { None })
+            }
+            Members::Down(first, last) => {
+                let first = end_value(first, constants)?;
+                let last = end_value(last, constants)?;
+                Some(if last <= first { Some(first) } else { None })
+            }
+        }
+    }
+
+    /// The number of a loop after this one, if there is one. None as a whole: it, or the end, has no value.
+    fn number_after(&self, constants: Constants, number: u64) -> Option<Option<u64>>
+        requires { constants.me < constants.procs }
+        ensures { result ≡ number_after constants self.now number }
+    {
+        match self {
+            Members::All | Members::Others | Members::Lower | Members::Higher => {
+                let further = number.checked_add(1)?;
+                Some(self.least_from(constants, further))
+            }
+            Members::Up(_, last) => {
+                let last = end_value(last, constants)?;
+                Some(if number < last {
+                    Some(number + 1)
+                } else {
+                    None
+                })
+            }
+            Members::Down(_, last) => {
+                let last = end_value(last, constants)?;
+                Some(if last < number {
+                    Some(number - 1)
+                } else {
+                    None
+                })
+            }
+        }
     }
 }
 
@@ -124,7 +183,7 @@ impl LocalState {
                 members,
                 after,
             } => {
-                let member = members.least_from(constants, 0);
+                let member = members.first_number(constants)?;
                 self.go_round(member, *name, next, *after);
             }
             LocalLine::Next {
@@ -132,8 +191,8 @@ impl LocalState {
                 members,
                 body,
             } => {
-                let further = self.store.get(*name).copied()?.checked_add(1)?;
-                let member = members.least_from(constants, further);
+                let number = self.store.get(*name).copied()?;
+                let member = members.number_after(constants, number)?;
                 self.go_round(member, *name, *body, next);
             }
         }

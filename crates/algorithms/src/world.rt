@@ -1,21 +1,17 @@
 //! The worlds of an algorithm.
 
 ghost use Rattle.std.specs.Prelude.{◌≡◌, ◌<◌, Some, None, Ok, Err, IfOk, IfErr, OnOk, OnErr, length};
-ghost use Rattle.algorithms.specs.LocalRuns.{nothing_noted};
-ghost use Rattle.algorithms.specs.Steps.{before_step, process_stopped_at, step_from};
-ghost use Rattle.algorithms.specs.Worlds.{access_at, start_refusal, words_after_access, process_after_start, taken_by};
+ghost use Rattle.algorithms.specs.Worlds.{words_after_access};
 
-use crate::access::{Address, Advanced, Moved, Taken, WordAccess, act};
+use crate::access::{Address, Advanced, Taken, WordAccess};
 use crate::algorithm::{Algorithm, AlgorithmCall};
 use crate::constants::{Constants, MOST_PROCS};
 use crate::expression::NAMES;
 use crate::first_rows::{FirstRows, all_at_rest, rest_all, restart_rows, rows_at_beginning};
 use crate::first_values::InitializedAlgorithm;
 use crate::first_words::{first_rows, has_all_values};
-use crate::line::{AccessLine, LineKind};
-use crate::local::{LocalState, arrive};
-use crate::noted::NotedDeeds;
-use crate::process::{AlgorithmPlace, AlgorithmProcess, keep};
+use crate::process::{AlgorithmPlace, AlgorithmProcess};
+use crate::process_step::{access_at, begin, place_of, state_at, step_from, take};
 use crate::refusal::AlgorithmRefusal;
 use std::alloc::{AllocError, Global};
 use std::marker::Model;
@@ -68,52 +64,8 @@ impl Model for AlgorithmWorld {
     ghost invariant = { λ w. vec_len w.processes ≡ w.procs };
 }
 
-/// The access line at a place.
-fn access_at(algorithm: &Algorithm, at: usize) -> Result<&AccessLine, AlgorithmRefusal>
-    ensures ok { IfOk result (λ line. access_at algorithm.now at ≡ Ok line.now) }
-    ensures err { IfErr result (λ e. access_at algorithm.now at ≡ Err e) }
-    ensures place { OnOk result (at < length algorithm.now.lines.items) }
-{
-    match algorithm.lines.get(at) {
-        None => Err(AlgorithmRefusal::Malformed { place: at }),
-        Some(line) => match &line.form {
-            LineKind::Access(access) => Ok(access),
-            LineKind::Local(_) | LineKind::Done(_) => Err(AlgorithmRefusal::Malformed {
-                place: at,
-            }),
-        },
-    }
-}
-
-/// Why a process at this place may not start the call.
-fn start_refusal(
-    algorithm: &Algorithm,
-    place: AlgorithmPlace,
-    call: AlgorithmCall,
-) -> Option<AlgorithmRefusal>
-    ensures { result ≡ start_refusal algorithm.now place call }
-{
-    match (place, call) {
-        (AlgorithmPlace::At(at), AlgorithmCall::Withdraw) => match access_at(algorithm, at) {
-            Ok(line) if line.may_withdraw => None,
-            _ => Some(AlgorithmRefusal::NotWaiting),
-        },
-        (AlgorithmPlace::Rest | AlgorithmPlace::Dead, AlgorithmCall::Withdraw) => Some(
-            AlgorithmRefusal::NotWaiting,
-        ),
-        (
-            AlgorithmPlace::At(_),
-            AlgorithmCall::Lock | AlgorithmCall::Unlock | AlgorithmCall::Recover,
-        ) => Some(AlgorithmRefusal::CallUnderWay),
-        (
-            AlgorithmPlace::Rest | AlgorithmPlace::Dead,
-            AlgorithmCall::Lock | AlgorithmCall::Unlock | AlgorithmCall::Recover,
-        ) => None,
-    }
-}
-
 /// Stores the value of an access, if it has one.
-fn store(words: &mut [[u64; MOST_PROCS]], access: WordAccess)
+pub(crate) fn store(words: &mut [[u64; MOST_PROCS]], access: WordAccess)
     ensures { words.new ≡ words_after_access words.old access.address access.stores }
 {
     let Address { declaration, index } = access.address;
@@ -126,108 +78,13 @@ fn store(words: &mut [[u64; MOST_PROCS]], access: WordAccess)
     }
 }
 
-/// Starts a call of a process.
-fn begin(
-    algorithm: &Algorithm,
-    constants: Constants,
-    process: &AlgorithmProcess,
-    call: AlgorithmCall,
-) -> Result<LocalState, AlgorithmRefusal>
-    requires { constants.me < constants.procs }
-    ensures ok { IfOk result (λ s. process_after_start algorithm.now constants process.now call ≡ Ok (process_stopped_at s None)) }
-    ensures refused { IfErr result (λ e. process_after_start algorithm.now constants process.now call ≡ Err e) }
-{
-    let entry = algorithm
-        .entries
-        .of(call)
-        .ok_or(AlgorithmRefusal::NoSuchCall)?;
-    if let Some(refusal) = start_refusal(algorithm, process.place, call) {
-        return Err(refusal);
-    }
-    let store = process.store;
-    let mut state = LocalState {
-        at: entry,
-        store,
-        noted: NotedDeeds::nothing(),
-    };
-    keep(&mut state.store, algorithm.lasting);
-    match arrive(algorithm.lines.as_slice(), constants, &mut state)? {
-        None => Ok(state),
-        Some(_) => Err(AlgorithmRefusal::Malformed { place: state.at }),
-    }
-}
-
-/// Takes the step of a process with this state, with the words as they are.
-fn take(
-    algorithm: &Algorithm,
-    constants: Constants,
-    words: &[[u64; MOST_PROCS]],
-    state: &mut LocalState,
-) -> Result<Advanced, AlgorithmRefusal>
-    requires own { constants.me < constants.procs }
-    requires first { state.old.noted ≡ nothing_noted }
-    ensures ok { IfOk result (λ a. taken_by algorithm.now constants words.now (process_stopped_at state.old None)
-        ≡ Ok (step_from state.old a state.new)) }
-    ensures refused { IfErr result (λ e. taken_by algorithm.now constants words.now (process_stopped_at state.old None) ≡ Err e) }
-{
-    let line = access_at(algorithm, state.at)?;
-    act(algorithm, constants, words, line, state)
-}
-
-/// A process before the access at this place.
-fn state_at(at: usize, process: &AlgorithmProcess) -> LocalState
-    ensures { result ≡ before_step at process.now }
-{
-    let store = process.store;
-    LocalState {
-        at,
-        store,
-        noted: NotedDeeds::nothing(),
-    }
-}
-
-/// The place of a process that has stopped here, with the answer of its call where that has ended.
-fn place_of(state: &LocalState, answer: Option<usize>) -> AlgorithmPlace
-    ensures { result ≡ (process_stopped_at state.now answer).place }
-{
-    match answer {
-        None => AlgorithmPlace::At(state.at),
-        Some(_) => AlgorithmPlace::Rest,
-    }
-}
-
-/// The step that says this, of a process that was before at one place, and has stopped at another.
-fn step_from(before: &LocalState, advanced: &Advanced, state: &LocalState) -> Taken
-    ensures { result ≡ step_from before.now advanced.now state.now }
-{
-    let (place, store) = if advanced.blocked {
-        let store = before.store;
-        (AlgorithmPlace::At(before.at), store)
-    } else {
-        let store = state.store;
-        (place_of(state, advanced.answer), store)
-    };
-    let process = AlgorithmProcess { place, store };
-    Taken {
-        at: before.at,
-        access: advanced.access,
-        value: advanced.value,
-        moved: Moved {
-            process,
-            noted: advanced.noted,
-            answer: advanced.answer,
-            blocked: advanced.blocked,
-        },
-    }
-}
-
 impl AlgorithmWorld {
-    ghost use Rattle.algorithms.specs.Worlds.{first_world, new_refusal, cause, constants_of, process_of, start, start_of_process, step, advance, crash, world_at_beginning, with_process};
+    ghost use Rattle.algorithms.specs.Worlds.{first_world, new_refusal, cause, constants_of, process_of, start, start_of_process, step, advance, next_access, crash, world_at_beginning, with_process};
 
     /// A world with the first values of all words, and all processes at rest. `limit` is the algorithm's `limit`.
     ///
     /// `BadProcs`: the algorithm is not for this number of processes. `BadLimit`: not 1 to 2^62. `BadProcs` also where at these
-    /// sizes a constant or a first value is out of range, or a first value above its bound.
+    /// sizes a constant or a first value is out of range, a first value above its bound, or an array has no word or more than 64.
     pub fn new(
         alloc: Global,
         algorithm: InitializedAlgorithm,
@@ -344,6 +201,23 @@ impl AlgorithmWorld {
             process.store = names;
         }
         Ok(advanced)
+    }
+
+    /// The access that a process makes next, as far as it is known before its word is read: of a swap not whether it stores.
+    ///
+    /// Refused as a step is that comes to no access. A later value that leaves the bounds is not seen.
+    pub fn next_access(&self, p: u64) -> Result<WordAccess, AlgorithmRefusal>
+        ensures ok { IfOk result (λ access. next_access self.now p ≡ Ok access) }
+        ensures refused { IfErr result (λ e. next_access self.now p ≡ Err e) }
+    {
+        let process = self.process_at(p)?;
+        let AlgorithmPlace::At(at) = process.place else {
+            return Err(AlgorithmRefusal::NothingToDo);
+        };
+        let line = access_at(&self.algorithm, at)?;
+        let declarations = self.algorithm.declarations.as_slice();
+        let access = line.access(declarations, self.constants(p), &process.store);
+        access.ok_or(AlgorithmRefusal::OutOfRange { place: at })
     }
 
     /// The process with this number. `NoSuchProcess`: there are fewer.

@@ -1,6 +1,7 @@
 use Rattle.std.proofs.Common.{ℕ, ◌++◌, ◌∙◌, ap, drop, replicate, slice_set, rules, arith}
 use Rattle.std.proofs.lemmas.Grind.{common_steps}
-use Rattle.algorithms.specs.FirstWords.{values_to, first_value, or_zero}
+use Rattle.algorithms.specs.Extents.{or_zero}
+use Rattle.algorithms.specs.FirstWords.{values_to, first_value}
 use Rattle.algorithms.proofs.FirstWords.{set_values}
 use Rattle.algorithms.proofs.first_words.row_of_values.Goals as goal
 

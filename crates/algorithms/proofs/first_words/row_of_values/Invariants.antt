@@ -1,5 +1,6 @@
 use Rattle.std.proofs.Common.{◌≡◌, ◌++◌, drop, replicate}
-use Rattle.algorithms.specs.FirstWords.{values_to, first_value, or_zero}
+use Rattle.algorithms.specs.Extents.{or_zero}
+use Rattle.algorithms.specs.FirstWords.{values_to, first_value}
 use Rattle.algorithms.proofs.first_words.row_of_values.Given as goal
 
 abbrev pub invariant-loop-index : goal.invariant-loop-index

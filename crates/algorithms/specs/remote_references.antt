@@ -1,0 +1,5 @@
+pub mod Copies
+pub mod RemoteReferences
+pub mod Passages
+pub mod CopyRows
+pub mod OwnCopies

@@ -1,6 +1,5 @@
 -- Lines that are read one after the other are those of a block.
 use Rattle.std.proofs.Common.{◌≡◌, ℕ, Bool, true, false, cond, ltb, List, [], ◌∷◌, ◌++◌, length, Option, Some, None, IfSome, slice_get, drop, codes, refl, sym, ap, subst}
-use Rattle.algorithms.specs.declared.line.Members.{Members}
 use Rattle.algorithm_texts.specs.declared.lines.Block.{Block as Kind}
 use Rattle.algorithm_texts.specs.declared.lines.Block.TheVariants.{If, Else, For}
 use Rattle.algorithm_texts.specs.declared.lines.CallRead.{CallRead}
@@ -9,9 +8,9 @@ use Rattle.algorithm_texts.specs.declared.tokens.Sign.TheVariants.{Assign, OpenI
 use Rattle.algorithm_texts.specs.declared.tokens.Token.{Token}
 use Rattle.algorithm_texts.specs.Parts.{◌>>=◌}
 use Rattle.algorithm_texts.specs.Grammar.{is_among}
-use Rattle.algorithm_texts.specs.Fronts.{is_the_word, is_the_sign, letters_of, past_word, past_sign, is_over, deed_said, members_said, past_withdraw, value_tokens, value_rest, begins_no_simple}
-use Rattle.algorithm_texts.specs.Drafts.{SharedWord, DraftAction, Loading, Storing, Awaiting, Swapping, Accessing, Noting, Going, Beginning, Drafted}
-use Rattle.algorithm_texts.specs.LineDrafts.{read_value, read_condition, scope_in, new_name, name_set, index_in, with_names, with_form, read_word, read_until, read_deed, read_access, begins_swap, read_swap_value, read_swap, read_awaited_swap, read_awaited_load, read_awaited, read_await, read_store, is_no_word, read_load, begins_word, read_assigned_value, read_assigned, read_private_assignment, read_assignment, read_done, read_goto, read_simple, opening, closing, landing, read_test, read_then, is_looping, loops, loop_opened, read_for, else_after, else_in, going_round, end_in, read_label}
+use Rattle.algorithm_texts.specs.Fronts.{is_the_word, is_the_sign, letters_of, past_word, past_sign, is_over, deed_said, past_withdraw, value_tokens, value_rest, begins_no_simple}
+use Rattle.algorithm_texts.specs.Drafts.{SharedWord, DraftMembers, DraftAction, Loading, Storing, Awaiting, Swapping, Accessing, Noting, Going, Beginning, Drafted}
+use Rattle.algorithm_texts.specs.LineDrafts.{read_value, read_condition, scope_in, new_name, name_set, index_in, with_names, with_form, read_word, read_until, read_deed, read_access, begins_swap, read_swap_value, read_swap, read_awaited_swap, read_awaited_load, read_awaited, read_await, read_store, is_no_word, read_load, begins_word, read_assigned_value, read_assigned, read_private_assignment, read_assignment, read_done, read_goto, read_simple, opening, closing, landing, read_test, read_then, is_looping, loops, read_members, loop_opened, read_for, else_after, else_in, going_round, end_in, read_label}
 use Rattle.algorithm_texts.specs.TextDrafts.{with_number}
 use Rattle.algorithm_texts.specs.Blocks.{Block, Empty, Line, Enclosed, Divided, read_if_block, read_if_line, begins_block, read_alone, divides, ends, draft_after_statement, beginning, dividing, ending, draft_after_block}
 
@@ -83,20 +82,20 @@ access_stays d word act tokens =
 
 swap_stays : (d : Drafted) (name : ℕ) (tokens : List Token) → Stays (round d) (read_swap d name tokens)
 swap_stays d name tokens =
-    stays (round d) (read_word (scope_in d) d.each d.names tokens) _
+    stays (round d) (read_word (scope_in d) d.extents d.names tokens) _
     (λ word. stays (round d) (read_swap_value (scope_in d) word.2 word.1) _
     (λ r. access_stays (with_names r.3 d) word.0 (Swapping name r.0 r.1 None) r.2))
 
 awaited_swap_stays : (d : Drafted) (name : ℕ) (tokens : List Token) → Stays (round d) (read_awaited_swap d name tokens)
 awaited_swap_stays d name tokens =
-    stays (round d) (read_word (scope_in d) d.each d.names tokens) _
+    stays (round d) (read_word (scope_in d) d.extents d.names tokens) _
     (λ word. stays (round d) (read_swap_value (scope_in d) word.2 word.1) _
     (λ r. stays (round d) (read_until (scope_in d) r.3 r.2) _
     (λ until. access_stays (with_names until.2 d) word.0 (Swapping name r.0 r.1 (Some until.0)) until.1)))
 
 awaited_load_stays : (d : Drafted) (name : ℕ) (tokens : List Token) → Stays (round d) (read_awaited_load d name tokens)
 awaited_load_stays d name tokens =
-    stays (round d) (read_word (scope_in d) d.each d.names tokens) _
+    stays (round d) (read_word (scope_in d) d.extents d.names tokens) _
     (λ word. stays (round d) (read_until (scope_in d) word.2 word.1) _
     (λ until. access_stays (with_names until.2 d) word.0 (Awaiting name until.0) until.1))
 
@@ -113,14 +112,14 @@ await_stays d tokens =
 
 store_stays : (d : Drafted) (tokens : List Token) → Stays (round d) (read_store d tokens)
 store_stays d tokens =
-    stays (round d) (read_word (scope_in d) d.each d.names tokens) _
+    stays (round d) (read_word (scope_in d) d.extents d.names tokens) _
     (λ word. stays (round d) (past_sign word.1 Assign) _
     (λ inner. stays (round d) (read_value (scope_in d) word.2 (value_tokens inner)) _
     (λ v. access_stays (with_names v.1 d) word.0 (Storing v.0) (value_rest inner))))
 
 load_stays : (d : Drafted) (name : ℕ) (tokens : List Token) → Stays (round d) (read_load d name tokens)
 load_stays d name tokens =
-    stays (round d) (read_word (scope_in d) d.each d.names tokens) _
+    stays (round d) (read_word (scope_in d) d.extents d.names tokens) _
     (λ word. choice_stays (round d) (is_no_word (slice_get word.1 0)) None (read_access (with_names word.2 d) word.0 (Loading name) word.1) tt
     (access_stays (with_names word.2 d) word.0 (Loading name) word.1))
 
@@ -220,19 +219,19 @@ if_block_opens d tokens =
     (λ test e. if_cond (λ now. (x : Opened) × (now.opened ≡ x ∷ d.opened)) (is_over test.1) (opening (length d.lines) If test.0) None
     (subst (λ os. Opens os (opening (length d.lines) If test.0)) (ap (λ r. r.0) e) (opening_opens (length d.lines) If test.0)) tt)
 
-loop_opens : (k : ℕ) (members : Members) (d : Drafted) → Opens d.opened (loop_opened k members d)
+loop_opens : (k : ℕ) (members : DraftMembers) (d : Drafted) → Opens d.opened (loop_opened k members d)
 loop_opens k members d =
     if_cond (λ (now : Drafted). (x : Opened) × (now.opened ≡ x ∷ d.opened)) (is_looping k d.opened) None
-    (cond (ltb (loops d.opened) 2) (opening (length d.lines) (For k members) (with_form (Beginning k members 0) d)) None) tt
-    (if_cond (λ (now : Drafted). (x : Opened) × (now.opened ≡ x ∷ d.opened)) (ltb (loops d.opened) 2) (opening (length d.lines) (For k members) (with_form (Beginning k members 0) d)) None
-    (opening_opens (length d.lines) (For k members) (with_form (Beginning k members 0) d)) tt)
+    (cond (ltb (loops d.opened) 2) (opening (length d.lines) (For k) (with_form (Beginning k members 0) d)) None) tt
+    (if_cond (λ (now : Drafted). (x : Opened) × (now.opened ≡ x ∷ d.opened)) (ltb (loops d.opened) 2) (opening (length d.lines) (For k) (with_form (Beginning k members 0) d)) None
+    (opening_opens (length d.lines) (For k) (with_form (Beginning k members 0) d)) tt)
 
 for_opens : (d : Drafted) (tokens : List Token) → Opens d.opened (read_for d tokens)
 for_opens d tokens =
     if_bind (λ name. Unit {0}) (λ now. (x : Opened) × (now.opened ≡ x ∷ d.opened)) (name_set (scope_in d) d.names (slice_get tokens 0)) _ (any_some (name_set (scope_in d) d.names (slice_get tokens 0)))
-    (λ name u. if_bind (λ members. Unit {0}) (λ now. (x : Opened) × (now.opened ≡ x ∷ d.opened)) (members_said (drop 1 tokens)) _ (any_some (members_said (drop 1 tokens)))
-    (λ members v. if_cond (λ (now : Drafted). (x : Opened) × (now.opened ≡ x ∷ d.opened)) (ltb (index_in name.0) d.lasting) None (loop_opened (index_in name.0) members (with_names name.1 d)) tt
-    (loop_opens (index_in name.0) members (with_names name.1 d))))
+    (λ name u. if_bind (λ members. Unit {0}) (λ now. (x : Opened) × (now.opened ≡ x ∷ d.opened)) (read_members (scope_in d) name.1 (drop 1 tokens)) _ (any_some (read_members (scope_in d) name.1 (drop 1 tokens)))
+    (λ members v. if_cond (λ (now : Drafted). (x : Opened) × (now.opened ≡ x ∷ d.opened)) (ltb (index_in name.0) d.lasting) None (loop_opened (index_in name.0) members.0 (with_names members.1 d)) tt
+    (loop_opens (index_in name.0) members.0 (with_names members.1 d))))
 
 pub begins_opens : (d : Drafted) (tokens : List Token) → Opens d.opened (begins_block d tokens)
 begins_opens d tokens =
@@ -251,7 +250,7 @@ opening_divides place d =
 else_opens : (o : Opened) (kind : Kind) (os : List Opened) (d : Drafted) → Divides os (else_after o kind os d)
 else_opens o If os d = opening_divides (length d.lines) (landing o.place (closing o os (with_form (Going 0) d)))
 else_opens o Else os d = tt
-else_opens o (For name members) os d = tt
+else_opens o (For name) os d = tt
 
 divides_opens : (o : Opened) (os : List Opened) (d : Drafted) (tokens : List Token) → Divides os (divides (o ∷ os) d tokens)
 divides_opens o os d tokens =
@@ -312,19 +311,19 @@ if_calls d tokens =
     (λ test e. choice_calls (rest_of d) (is_over test.1) (opening (length d.lines) If test.0) None
     (subst (λ cs. Calls cs (opening (length d.lines) If test.0)) (ap (λ (r : List Opened × List CallRead × List (List ℕ)). (r.1, r.2)) e) (opening_calls (length d.lines) If test.0)) tt)
 
-loop_calls : (k : ℕ) (members : Members) (d : Drafted) → Calls (rest_of d) (loop_opened k members d)
+loop_calls : (k : ℕ) (members : DraftMembers) (d : Drafted) → Calls (rest_of d) (loop_opened k members d)
 loop_calls k members d =
     choice_calls (rest_of d) (is_looping k d.opened) None
-    (cond (ltb (loops d.opened) 2) (opening (length d.lines) (For k members) (with_form (Beginning k members 0) d)) None) tt
-    (choice_calls (rest_of d) (ltb (loops d.opened) 2) (opening (length d.lines) (For k members) (with_form (Beginning k members 0) d)) None
-    (opening_calls (length d.lines) (For k members) (with_form (Beginning k members 0) d)) tt)
+    (cond (ltb (loops d.opened) 2) (opening (length d.lines) (For k) (with_form (Beginning k members 0) d)) None) tt
+    (choice_calls (rest_of d) (ltb (loops d.opened) 2) (opening (length d.lines) (For k) (with_form (Beginning k members 0) d)) None
+    (opening_calls (length d.lines) (For k) (with_form (Beginning k members 0) d)) tt)
 
 for_calls : (d : Drafted) (tokens : List Token) → Calls (rest_of d) (read_for d tokens)
 for_calls d tokens =
     if_bind (λ name. Unit {0}) (λ now. rest_of now ≡ rest_of d) (name_set (scope_in d) d.names (slice_get tokens 0)) _ (any_some (name_set (scope_in d) d.names (slice_get tokens 0)))
-    (λ name u. if_bind (λ members. Unit {0}) (λ now. rest_of now ≡ rest_of d) (members_said (drop 1 tokens)) _ (any_some (members_said (drop 1 tokens)))
-    (λ members v. choice_calls (rest_of d) (ltb (index_in name.0) d.lasting) None (loop_opened (index_in name.0) members (with_names name.1 d)) tt
-    (loop_calls (index_in name.0) members (with_names name.1 d))))
+    (λ name u. if_bind (λ members. Unit {0}) (λ now. rest_of now ≡ rest_of d) (read_members (scope_in d) name.1 (drop 1 tokens)) _ (any_some (read_members (scope_in d) name.1 (drop 1 tokens)))
+    (λ members v. choice_calls (rest_of d) (ltb (index_in name.0) d.lasting) None (loop_opened (index_in name.0) members.0 (with_names members.1 d)) tt
+    (loop_calls (index_in name.0) members.0 (with_names members.1 d))))
 
 pub begins_calls : (d : Drafted) (tokens : List Token) → Calls (rest_of d) (begins_block d tokens)
 begins_calls d tokens =
@@ -335,7 +334,7 @@ begins_calls d tokens =
 else_calls : (o : Opened) (kind : Kind) (os : List Opened) (d : Drafted) → Calls (rest_of d) (else_after o kind os d)
 else_calls o If os d = opening_calls (length d.lines) Else (landing o.place (closing o os (with_form (Going 0) d)))
 else_calls o Else os d = tt
-else_calls o (For name members) os d = tt
+else_calls o (For name) os d = tt
 
 else_in_calls : (os : List Opened) (d : Drafted) → Calls (rest_of d) (else_in os d)
 else_in_calls [] d = tt
@@ -346,14 +345,14 @@ divides_calls os d tokens =
     choice_calls (rest_of d) (is_the_word (slice_get tokens 0) (codes "else")) (cond (is_over (drop 1 tokens)) (else_in os d) None) None
     (choice_calls (rest_of d) (is_over (drop 1 tokens)) (else_in os d) None (else_in_calls os d) tt) tt
 
-round_calls : (first : ℕ) (kind : Kind) (d : Drafted) → rest_of (going_round first kind d) ≡ rest_of d
-round_calls first If d = refl
-round_calls first Else d = refl
-round_calls first (For name members) d = refl
+round_calls : (at first : ℕ) (kind : Kind) (d : Drafted) → rest_of (going_round at first kind d) ≡ rest_of d
+round_calls at first If d = refl
+round_calls at first Else d = refl
+round_calls at first (For name) d = refl
 
 end_in_calls : (os : List Opened) (d : Drafted) → Calls (rest_of d) (end_in os d)
 end_in_calls [] d = tt
-end_in_calls (o ∷ os) d = round_calls o.first o.kind d
+end_in_calls (o ∷ os) d = round_calls o.place o.first o.kind d
 
 pub ends_calls : (os : List Opened) (d : Drafted) (tokens : List Token) → Calls (rest_of d) (ends os d tokens)
 ends_calls os d tokens =

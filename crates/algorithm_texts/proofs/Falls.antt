@@ -12,12 +12,16 @@ use Rattle.algorithms.specs.declared.line.LineKind.{LineKind}
 use Rattle.algorithms.specs.declared.line.LineKind.TheVariants.{Access, Local, Done}
 use Rattle.algorithms.specs.declared.line.LocalLine.{LocalLine}
 use Rattle.algorithms.specs.declared.line.LocalLine.TheVariants.{Assign, Note, Goto, Branch, First, Next}
-use Rattle.algorithms.specs.Ranked.{rank_of, is_below, is_line_below, has_round, ways_pass, is_line, form_falls, AllFall, LocalLinesEnd, AccessesLeadOn}
+use Rattle.algorithms.specs.declared.expression.Expression.{Expression, Number, Private, Me, Procs, Limit, Joined'}
+use Rattle.algorithms.specs.declared.line.Members.{Members}
+use Rattle.algorithms.specs.declared.line.Members.TheVariants.{All as AllMembers, Others, Lower, Higher, Up, Down}
+use Rattle.algorithms.specs.Ranked.{rank_of, is_below, is_line_below, literal_of, least_joined, least_value, is_at_most, has_round, ways_pass, is_line, form_falls, AllFall, LocalLinesEnd, AccessesLeadOn}
 use Rattle.algorithms.proofs.Ranked.{all_end, all_lead}
 use Rattle.algorithm_texts.specs.declared.flow.RunKind.TheVariants.{All}
 use Rattle.algorithm_texts.specs.declared.lines.CallRead.{CallRead}
-use Rattle.algorithm_texts.specs.Drafts.{Ending, PlacedLine, Drafted, form_of, line_of, lines_of, local_form}
-use Rattle.algorithm_texts.specs.FinishedDrafts.{call_in, is_in, is_way, ways}
+use Rattle.algorithm_texts.specs.Parts.{term_of}
+use Rattle.algorithm_texts.specs.Drafts.{members_form, Ending, PlacedLine, Drafted, form_of, line_of, lines_of, local_form}
+use Rattle.algorithm_texts.specs.FinishedDrafts.{literal_in, least_term, loop_has_round, call_in, is_in, is_way, ways}
 use Rattle.algorithm_texts.specs.Runs.{ways_after, leads_to, RunsFit, RunsComeTo}
 use Rattle.algorithm_texts.specs.UnreachedLines.{line_stays, lines_stay, ended_line, ended_from, EndUnreached}
 use Rattle.algorithm_texts.proofs.RunMarks.{both_true, true_or_false, or_left, or_right, either}
@@ -32,6 +36,41 @@ and_true false b h k = absurd (false≢true h)
 first_leads : (w : ℕ) (ws : List ℕ) → leads_to (w ∷ ws) w ≡ true
 first_leads w ws = or_left (eqb w w) (leads_to ws w) (eq-eqb w w refl)
 
+-- a draft has the rounds of its algorithm
+
+literal_same : (e : Expression) → literal_in (term_of e) ≡ literal_of e
+literal_same (Number n) = refl
+literal_same (Private k) = refl
+literal_same Me = refl
+literal_same Procs = refl
+literal_same Limit = refl
+literal_same (Joined' o p a q b) = refl
+
+least_same : (least : ℕ) (e : Expression) → least_term least (term_of e) ≡ least_value least e
+least_same least (Number n) = refl
+least_same least (Private k) = refl
+least_same least Me = refl
+least_same least Procs = refl
+least_same least Limit = refl
+least_same least (Joined' o p a q b) =
+    let x = least_same least a in
+    let y = literal_same b in
+    (λ i. least_joined o (x i) (y i))
+
+same_round : (least : ℕ) (members : Members) → loop_has_round least (members_form members) ≡ has_round least members
+same_round least AllMembers = refl
+same_round least Others = refl
+same_round least Lower = refl
+same_round least Higher = refl
+same_round least (Up a b) =
+    let x = literal_same a in
+    let y = least_same least b in
+    (λ i. is_at_most (x i) (y i))
+same_round least (Down a b) =
+    let x = literal_same b in
+    let y = least_same least a in
+    (λ i. is_at_most (x i) (y i))
+
 -- a test that all ways pass
 ways_all : (test : ℕ → Bool) (least next : ℕ) (l : LocalLine) → ((w : ℕ) → leads_to (ways least next (local_form l)) w ≡ true → test w ≡ true)
     → ways_pass test least next l ≡ true
@@ -43,10 +82,10 @@ ways_all test least next (Branch condition otherwise) h =
     (h otherwise (or_right (eqb next otherwise) (leads_to (otherwise ∷ []) otherwise) (first_leads otherwise [])))
 ways_all test least next (First name members after) h = elim (true_or_false (has_round least members)) [
   | inl t ↦
-      let f : (w : ℕ) → leads_to (next ∷ []) w ≡ true → test w ≡ true = λ w k. h w (ap (λ b. leads_to (cond b (next ∷ []) (next ∷ (after ∷ []))) w) t ∙ k) in
+      let f : (w : ℕ) → leads_to (next ∷ []) w ≡ true → test w ≡ true = λ w k. h w (ap (λ b. leads_to (cond b (next ∷ []) (next ∷ (after ∷ []))) w) (same_round least members ∙ t) ∙ k) in
       and_true (test next) (has_round least members || test after) (f next (first_leads next [])) (or_left (has_round least members) (test after) t)
   | inr e ↦
-      let f : (w : ℕ) → leads_to (next ∷ (after ∷ [])) w ≡ true → test w ≡ true = λ w k. h w (ap (λ b. leads_to (cond b (next ∷ []) (next ∷ (after ∷ []))) w) e ∙ k) in
+      let f : (w : ℕ) → leads_to (next ∷ (after ∷ [])) w ≡ true → test w ≡ true = λ w k. h w (ap (λ b. leads_to (cond b (next ∷ []) (next ∷ (after ∷ []))) w) (same_round least members ∙ e) ∙ k) in
       and_true (test next) (has_round least members || test after) (f next (first_leads next (after ∷ [])))
       (or_right (has_round least members) (test after) (f after (or_right (eqb next after) (leads_to (after ∷ []) after) (first_leads after []))))
 ]

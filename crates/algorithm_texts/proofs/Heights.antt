@@ -5,11 +5,10 @@ use Rattle.std.specs.Option.{option_map}
 use Rattle.std.proofs.lemmas.Bool.{false≢true, ltb-true, ltb-false, eqb-true, eq-eqb}
 use Rattle.std.proofs.lemmas.Option.{slice_get-map}
 use Rattle.std.proofs.lemmas.List.FromFn.{get_or-map-range_with_len}
-use Rattle.algorithms.specs.Ranked.{has_round}
 use Rattle.algorithm_texts.specs.declared.flow.RunKind.TheVariants.{All, Silent}
 use Rattle.algorithm_texts.specs.declared.lines.CallRead.{CallRead}
 use Rattle.algorithm_texts.specs.Drafts.{LineForm, Accessing, Assigning, Noting, Going, Branching, Beginning, Repeating, Ending, PlacedLine, Drafted, form_with_place}
-use Rattle.algorithm_texts.specs.FinishedDrafts.{is_within, ways}
+use Rattle.algorithm_texts.specs.FinishedDrafts.{loop_has_round, is_within, ways}
 use Rattle.algorithm_texts.specs.Runs.{ways_after, ways_from, leads_to, is_access, is_line_in, IsPlaceReached, RunsStay, NoneReturns}
 use Rattle.algorithm_texts.specs.Usage.{uses, passes_where, passes_at}
 use Rattle.algorithm_texts.proofs.RunMarks.{both_true, true_or_false, or_left, or_right, either, comes_on}
@@ -114,7 +113,7 @@ local_leads least next (Assigning name value) h = (next, or_left (eqb next next)
 local_leads least next (Noting deed) h = (next, or_left (eqb next next) false (eq-eqb next next refl))
 local_leads least next (Going place) h = (place, or_left (eqb place place) false (eq-eqb place place refl))
 local_leads least next (Branching condition otherwise) h = (next, or_left (eqb next next) (eqb otherwise next || false) (eq-eqb next next refl))
-local_leads least next (Beginning name members after) h = elim (true_or_false (has_round least members)) [
+local_leads least next (Beginning name members after) h = elim (true_or_false (loop_has_round least members)) [
   | inl t ↦ (next, ap (λ b. leads_to (cond b (next ∷ []) (next ∷ (after ∷ []))) next) t ∙ or_left (eqb next next) false (eq-eqb next next refl))
   | inr f ↦ (next, ap (λ b. leads_to (cond b (next ∷ []) (next ∷ (after ∷ []))) next) f ∙ or_left (eqb next next) (eqb after next || false) (eq-eqb next next refl))
 ]

@@ -33,3 +33,5 @@ pub mod DraftFaults
 pub mod CallFaults
 pub mod RedirectFaults
 pub mod FormFaults
+pub mod SameAlgorithms
+pub mod SameItems

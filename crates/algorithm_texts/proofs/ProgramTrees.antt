@@ -11,7 +11,7 @@ use Rattle.algorithm_texts.specs.Parts.{◌>>=◌}
 use Rattle.algorithm_texts.specs.Fronts.{is_the_word, is_over, named_by}
 use Rattle.algorithm_texts.specs.Drafts.{Drafted, draft_view}
 use Rattle.algorithm_texts.specs.LineDrafts.{read_statement, scope_in}
-use Rattle.algorithm_texts.specs.TextDrafts.{Spoken, with_number, empty_draft, call_words, has_call, with_call, end_call_in, end_call, ended_calls, read_call, undeclared_name, read_each, read_bound_and_start, with_lasting, read_shared, read_private, read_constant_value, read_constant, read_declaration, read_line, read_lines, read_head, read_promises, read_text}
+use Rattle.algorithm_texts.specs.TextDrafts.{Spoken, with_number, empty_draft, call_words, has_call, with_call, end_call_in, end_call, ended_calls, read_call, undeclared_name, read_extent, is_array, read_word_values, with_lasting, read_shared, read_private, read_constant_value, read_constant, read_declaration, read_line, read_lines, read_head, read_promises, read_text}
 use Rattle.algorithm_texts.specs.TextLines.{TextSays}
 use Rattle.algorithm_texts.specs.Blocks.{Block, lines_in, begins_block, divides, ends, draft_after_block, read_statements}
 use Rattle.algorithm_texts.specs.FinishedDrafts.{finished_draft, with_lines}
@@ -46,8 +46,8 @@ around d = (d.opened, d.calls)
 shared_stays : (d : Drafted) (tokens : List Token) → IfSome (read_shared d tokens) (λ now. around now ≡ around d)
 shared_stays d tokens =
     on_all (λ now. around now ≡ around d) (undeclared_name (scope_in d) d.names (slice_get tokens 0)) _
-    (λ name. on_all (λ now. around now ≡ around d) (cond (ltb (length d.declared) 64) (read_each (drop 1 tokens)) None) _
-    (λ each. on_all (λ now. around now ≡ around d) (read_bound_and_start (scope_in d) each.0 d.names each.1) _ (λ v. refl)))
+    (λ name. on_all (λ now. around now ≡ around d) (cond (ltb (length d.declared) 64) (read_extent (scope_in d) d.names (drop 1 tokens)) None) _
+    (λ extent. on_all (λ now. around now ≡ around d) (read_word_values (scope_in d) (is_array extent.0) extent.2 extent.1) _ (λ v. refl)))
 
 private_stays : (d : Drafted) (tokens : List Token) → IfSome (read_private d tokens) (λ now. around now ≡ around d)
 private_stays d tokens =
@@ -278,7 +278,7 @@ spelled text ready checked first spells runs enters leaves ends kept values = re
     algorithm = record {
       head = ap (λ d. d.head) kept;
       declared = ap (λ d. d.declared) kept;
-      each = ap (λ d. d.each) kept;
+      extents = ap (λ d. d.extents) kept;
       lasting = ap (λ d. d.lasting) kept;
       names = ap (λ d. d.names) kept;
       answers = ap (λ d. d.answers) kept;

@@ -15,7 +15,7 @@ unfoldable use Rattle.algorithm_texts.specs.Operands.{reserved}
 use Rattle.algorithm_texts.specs.Fronts.{is_the_word, is_the_sign, letters_of, is_over, begins_no_simple}
 use Rattle.algorithm_texts.specs.Drafts.{Drafted}
 use Rattle.algorithm_texts.specs.LineDrafts.{new_name_in, new_name, has_declaration, name_set, is_constant, scope_in, read_goto, read_done, read_deed, read_await, read_store, read_private_assignment, read_assignment, read_simple, opening, read_test, read_then, read_if, read_for, read_else, read_end, read_label, read_statement}
-use Rattle.algorithm_texts.specs.TextDrafts.{Spoken, with_number, empty_draft, undeclared_name, read_each, read_bound_and_start, with_lasting, read_shared, read_private, read_constant_value, read_constant, read_declaration, read_call, read_line, read_lines, read_head, read_promises, read_text}
+use Rattle.algorithm_texts.specs.TextDrafts.{Spoken, with_number, empty_draft, undeclared_name, read_extent, is_array, read_word_values, with_lasting, read_shared, read_private, read_constant_value, read_constant, read_declaration, read_call, read_line, read_lines, read_head, read_promises, read_text}
 use Rattle.algorithm_texts.specs.Blocks.{Block, Empty, Line, Enclosed, Divided, lines_in, read_if_block, read_if_line, begins_block, read_alone, divides, ends, draft_after_statement, beginning, dividing, ending, draft_after_block}
 use Rattle.algorithm_texts.specs.Programs.{CallLines, Program, calls_lines, program_lines, declarations_made, call_begun, calls_made, meaning_of}
 use Rattle.algorithm_texts.proofs.BlockTrees.{some_of, if_of, if_bind, if_cond, on_all, rest_of, alone_rest, begins_calls, divides_calls, ends_calls}
@@ -373,8 +373,8 @@ undeclared_other scope names token =
 shared_other : (d : Drafted) (tokens : List Token) → NoCall d.declared → IfSome (read_shared d tokens) (λ now. NoCall now.declared)
 shared_other d tokens none =
     if_bind IsOther (λ now. NoCall now.declared) (undeclared_name (scope_in d) d.names (slice_get tokens 0)) _ (undeclared_other (scope_in d) d.names (slice_get tokens 0))
-    (λ name other. on_all (λ now. NoCall now.declared) (cond (ltb (length d.declared) 64) (read_each (drop 1 tokens)) None) _
-    (λ each. on_all (λ now. NoCall now.declared) (read_bound_and_start (scope_in d) each.0 d.names each.1) _ (λ v. among_more d.declared name (codes "call") none other)))
+    (λ name other. on_all (λ now. NoCall now.declared) (cond (ltb (length d.declared) 64) (read_extent (scope_in d) d.names (drop 1 tokens)) None) _
+    (λ extent. on_all (λ now. NoCall now.declared) (read_word_values (scope_in d) (is_array extent.0) extent.2 extent.1) _ (λ v. among_more d.declared name (codes "call") none other)))
 
 private_other : (d : Drafted) (tokens : List Token) → NoCall d.declared → IfSome (read_private d tokens) (λ now. NoCall now.declared)
 private_other d tokens none =

@@ -3,6 +3,8 @@ use Rattle.std.specs.Prelude.{ℕ, Bool, List, map, reverse, slice_set, Option, 
 use Rattle.std.specs.Option.{option_map}
 use Rattle.algorithms.specs.declared.algorithm.Algorithm.{Algorithm}
 use Rattle.algorithms.specs.declared.algorithm.Entries.{Entries}
+use Rattle.algorithms.specs.declared.algorithm.Extent.{Extent}
+use Rattle.algorithms.specs.declared.algorithm.Extent.TheVariants.{One, Each, Array, Table}
 use Rattle.algorithms.specs.declared.algorithm.Promises.{Promises}
 use Rattle.algorithms.specs.declared.expression.Expression.{Expression}
 use Rattle.algorithms.specs.declared.line.AccessLine.{AccessLine}
@@ -15,6 +17,7 @@ use Rattle.algorithms.specs.declared.line.AlgorithmLine.{AlgorithmLine}
 use Rattle.algorithms.specs.declared.line.LocalLine.{LocalLine}
 use Rattle.algorithms.specs.declared.line.LocalLine.TheVariants.{Assign, Note, Goto, Branch, First, Next}
 use Rattle.algorithms.specs.declared.line.Members.{Members}
+use Rattle.algorithms.specs.declared.line.Members.TheVariants.{All, Others, Lower, Higher, Up, Down}
 use Rattle.algorithms.specs.declared.line.WordOf.{WordOf}
 use Rattle.algorithm_texts.specs.declared.lines.CallRead.{CallRead}
 use Rattle.algorithm_texts.specs.declared.lines.Draft.{Draft}
@@ -26,7 +29,7 @@ use Rattle.algorithm_texts.specs.Operands.{names_of, declared_of, named_constant
 
 -- ---- lines
 
--- a shared word, with its index where there is one for each process
+-- a shared word, with its place where it is one of an array
 pub record SharedWord : Type 0 where
   pub declaration : ℕ
   pub index : Option Term
@@ -43,6 +46,15 @@ pub record AccessForm : Type 0 where
   pub act : DraftAction
   pub may_withdraw : Bool
 
+-- what a loop goes over: processes, or numbers between two ends
+pub data DraftMembers : Type 0 where
+  AllProcesses : DraftMembers
+  OtherProcesses : DraftMembers
+  LowerProcesses : DraftMembers
+  HigherProcesses : DraftMembers
+  Rising : Term → Term → DraftMembers
+  Falling : Term → Term → DraftMembers
+
 -- what a line is
 pub data LineForm : Type 0 where
   Accessing : AccessForm → LineForm
@@ -50,8 +62,8 @@ pub data LineForm : Type 0 where
   Noting : AlgorithmDeed → LineForm
   Going : ℕ → LineForm
   Branching : Formula → ℕ → LineForm
-  Beginning : ℕ → Members → ℕ → LineForm
-  Repeating : ℕ → Members → ℕ → LineForm
+  Beginning : ℕ → DraftMembers → ℕ → LineForm
+  Repeating : ℕ → DraftMembers → ℕ → LineForm
   Ending : ℕ → LineForm
 
 -- a line, with its number in the text
@@ -71,13 +83,21 @@ act_of (Swap name value guard until) = Swapping name (term_of value) (option_map
 abbrev pub access_of : AccessLine → AccessForm
 access_of a = record { word = word_of a.word; act = act_of a.action; may_withdraw = a.may_withdraw }
 
+abbrev pub members_form : Members → DraftMembers
+members_form All = AllProcesses
+members_form Others = OtherProcesses
+members_form Lower = LowerProcesses
+members_form Higher = HigherProcesses
+members_form (Up a b) = Rising (term_of a) (term_of b)
+members_form (Down a b) = Falling (term_of a) (term_of b)
+
 abbrev pub local_form : LocalLine → LineForm
 local_form (Assign name value) = Assigning name (term_of value)
 local_form (Note deed) = Noting deed
 local_form (Goto place) = Going place
 local_form (Branch condition otherwise) = Branching (formula_of condition) otherwise
-local_form (First name members after) = Beginning name members after
-local_form (Next name members body) = Repeating name members body
+local_form (First name members after) = Beginning name (members_form members) after
+local_form (Next name members body) = Repeating name (members_form members) body
 
 abbrev pub form_of : LineKind → LineForm
 form_of (Access a) = Accessing (access_of a)
@@ -93,9 +113,21 @@ lines_of a = map line_of a.lines.items
 abbrev pub answers_of : Algorithm → List (List ℕ)
 answers_of a = map (λ answer. string_bytes answer) a.answers.items
 
--- whether a declaration has a word for each process
-abbrev pub each_of : Algorithm → List Bool
-each_of a = map (λ d. d.each) a.declarations.items
+-- how many words a declaration has: one, one for each process, or as many as a size. A table also has a number of words in a row
+pub data DraftExtent : Type 0 where
+  OneWord : DraftExtent
+  OfProcesses : DraftExtent
+  OfSize : Term → DraftExtent
+  OfRows : Term → Term → DraftExtent
+
+abbrev pub extent_of : Extent → DraftExtent
+extent_of One = OneWord
+extent_of Each = OfProcesses
+extent_of (Array size) = OfSize (term_of size)
+extent_of (Table size columns) = OfRows (term_of size) (term_of columns)
+
+abbrev pub extents_of : Algorithm → List DraftExtent
+extents_of a = map (λ d. extent_of d.extent) a.declarations.items
 
 -- a line that leads past a block, or a goto, leads to this place
 abbrev pub form_with_place : ℕ → LineForm → LineForm
@@ -126,6 +158,7 @@ pub record DraftHead : Type 0 where
   pub promises : Promises
   pub constants : List (List ℕ × Term)
   pub bounds : List (Option Term)
+  pub homes : List (Option Term)
   pub entries : Entries
 
 abbrev pub head_of : Algorithm → DraftHead
@@ -136,15 +169,16 @@ head_of a = record {
   promises = a.promises;
   constants = named_constants a;
   bounds = map (λ d. option_map (λ b. term_of b) d.bound) a.declarations.items;
+  homes = map (λ d. option_map (λ h. term_of h) d.home) a.declarations.items;
   entries = a.entries;
 }
 
--- what was read so far: also the first value of the words of each declaration, where one is said, and whether a first value or a
--- constant is
+-- what was read so far: also the first value of the words of each declaration, where one is said, and whether a first value, a
+-- constant or a size is
 pub record Drafted : Type 0 where
   pub head : DraftHead
   pub declared : List (List ℕ)
-  pub each : List Bool
+  pub extents : List DraftExtent
   pub starts : List (Option Term)
   pub says_values : Bool
   pub lasting : ℕ
@@ -162,7 +196,7 @@ abbrev pub draft_view : Draft → Drafted
 draft_view d = record {
   head = head_of d.algorithm;
   declared = declared_of d.algorithm;
-  each = each_of d.algorithm;
+  extents = extents_of d.algorithm;
   starts = map start_term d.starts.items;
   says_values = d.says_values;
   lasting = d.algorithm.lasting;

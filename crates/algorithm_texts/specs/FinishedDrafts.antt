@@ -1,13 +1,13 @@
 -- A draft that was read becomes an algorithm: gotos lead to their labels, calls begin at their lines.
 use Rattle.std.specs.Prelude.{ℕ, nat_lt, nat_le, Bool, true, false, ◌&&◌, List, [], ◌∷◌, slice_get, Option, Some, None, if◌then◌else◌, bytes_eq, position}
-use Rattle.algorithms.specs.Ranked.{has_round}
+use Rattle.algorithms.specs.Ranked.{least_joined, is_at_most}
 use Rattle.algorithms.specs.declared.algorithm.AlgorithmCall.{AlgorithmCall}
 use Rattle.algorithms.specs.declared.algorithm.AlgorithmCall.TheVariants.{Lock, Unlock, Recover, Withdraw}
 use Rattle.algorithm_texts.specs.declared.lines.CallRead.{CallRead}
 use Rattle.algorithm_texts.specs.declared.lines.Jump.{Jump}
 use Rattle.algorithm_texts.specs.declared.lines.Label.{Label}
-use Rattle.algorithm_texts.specs.Parts.{◌>>=◌}
-use Rattle.algorithm_texts.specs.Drafts.{LineForm, Accessing, Assigning, Noting, Going, Branching, Beginning, Repeating, Ending, PlacedLine, leading, Drafted}
+use Rattle.algorithm_texts.specs.Parts.{Term, Number, Private, Me, Procs, Limit, Joined, ◌>>=◌}
+use Rattle.algorithm_texts.specs.Drafts.{DraftMembers, AllProcesses, OtherProcesses, LowerProcesses, HigherProcesses, Rising, Falling, LineForm, Accessing, Assigning, Noting, Going, Branching, Beginning, Repeating, Ending, PlacedLine, leading, Drafted}
 use Rattle.algorithm_texts.specs.TextDrafts.{is_call}
 
 -- ---- gotos
@@ -122,6 +122,33 @@ is_marked (Some mark) = mark
 abbrev pub is_in : List Bool → ℕ → Bool
 is_in marks place = is_marked (slice_get marks place)
 
+-- a number that is written as one
+abbrev pub literal_in : Term → Option ℕ
+literal_in (Number n) = Some n
+literal_in (Private k) = None
+literal_in Me = None
+literal_in Procs = None
+literal_in Limit = None
+literal_in (Joined o a b) = None
+
+-- a value is not below this number where there are at least so few processes
+abbrev pub least_term : ℕ → Term → ℕ
+least_term least (Number n) = n
+least_term least (Private k) = 0
+least_term least Me = 0
+least_term least Procs = least
+least_term least Limit = 0
+least_term least (Joined o a b) = least_joined o (least_term least a) (literal_in b)
+
+-- whether a loop over these has a round in each world of an algorithm for this least number of processes
+abbrev pub loop_has_round : ℕ → DraftMembers → Bool
+loop_has_round least AllProcesses = true
+loop_has_round least OtherProcesses = nat_le 2 least
+loop_has_round least LowerProcesses = false
+loop_has_round least HigherProcesses = false
+loop_has_round least (Rising a b) = is_at_most (literal_in a) (least_term least b)
+loop_has_round least (Falling a b) = is_at_most (literal_in b) (least_term least a)
+
 -- the places to which a line leads, with the place of the line after it
 abbrev pub ways : ℕ → ℕ → LineForm → List ℕ
 ways least next (Accessing a) = next ∷ []
@@ -129,6 +156,6 @@ ways least next (Assigning name value) = next ∷ []
 ways least next (Noting deed) = next ∷ []
 ways least next (Going place) = place ∷ []
 ways least next (Branching condition otherwise) = next ∷ (otherwise ∷ [])
-ways least next (Beginning name members after) = if has_round least members then next ∷ [] else next ∷ (after ∷ [])
+ways least next (Beginning name members after) = if loop_has_round least members then next ∷ [] else next ∷ (after ∷ [])
 ways least next (Repeating name members body) = body ∷ (next ∷ [])
 ways least next (Ending answer) = []

@@ -4,7 +4,7 @@ use Rattle.std.specs.List.{prefix_len}
 use Rattle.algorithms.specs.declared.condition.Comparison.{Comparison}
 use Rattle.algorithms.specs.declared.condition.Comparison.TheVariants.{Equal, NotEqual, Less, AtMost, Greater, AtLeast}
 use Rattle.algorithms.specs.declared.expression.Operator.{Operator}
-use Rattle.algorithms.specs.declared.expression.Operator.TheVariants.{Sum, Difference, Product, Quotient, Remainder, Maximum, Minimum}
+use Rattle.algorithms.specs.declared.expression.Operator.TheVariants.{Sum, Difference, Product, Quotient, Remainder, Maximum, Minimum, Within}
 use Rattle.algorithms.specs.declared.line.AlgorithmDeed.{AlgorithmDeed}
 use Rattle.algorithms.specs.declared.line.AlgorithmDeed.TheVariants.{Begin, Ready, Enter, Reenter, Leave, Quit}
 use Rattle.algorithms.specs.declared.line.Members.{Members}
@@ -26,6 +26,7 @@ operator_number Quotient = 3
 operator_number Remainder = 4
 operator_number Maximum = 5
 operator_number Minimum = 6
+operator_number Within = 20
 
 abbrev pub comparison_number : Comparison → ℕ
 comparison_number Equal = 7

@@ -2,7 +2,7 @@
 use Rattle.std.specs.Prelude.{◌≡◌, ℕ, ◌+◌, ◌≤◌, max, nat_lt, Bool, ◌||◌, List, [], ◌∷◌, ◌++◌, length, slice_get, Option, Some, None, if◌then◌else◌, codes, bytes_eq, position}
 use Rattle.std.specs.List.{list_any}
 use Rattle.algorithms.specs.declared.expression.Operator.{Operator}
-use Rattle.algorithms.specs.declared.expression.Operator.TheVariants.{Sum, Difference, Product, Quotient, Remainder, Maximum, Minimum}
+use Rattle.algorithms.specs.declared.expression.Operator.TheVariants.{Sum, Difference, Product, Quotient, Remainder, Maximum, Minimum, Within}
 use Rattle.algorithm_texts.specs.declared.tokens.Sign.TheVariants.{Open, Close, Comma, Operator as OperatorSign, Comparison as ComparisonSign}
 use Rattle.algorithm_texts.specs.declared.tokens.Token.{Token}
 use Rattle.algorithm_texts.specs.declared.tokens.Token.TheVariants.{Number as NumberToken, Word, Sign}
@@ -54,6 +54,7 @@ operator_strength Quotient = 5
 operator_strength Remainder = 5
 operator_strength Maximum = 5
 operator_strength Minimum = 5
+operator_strength Within = 5
 
 abbrev pub strength : Joint → ℕ
 strength Or = 1

@@ -21,3 +21,4 @@ pub mod Programs
 pub mod Sayings
 pub mod TextFaults
 pub mod LineFaults
+pub mod Likeness

@@ -1,7 +1,8 @@
 -- Reading the lines of a call from the left: what each of them makes of a draft, or None where it is refused.
-use Rattle.std.specs.Prelude.{◌≡◌, ℕ, ◌+◌, nat_lt, nat_eq, Bool, true, false, not, ◌&&◌, ◌||◌, List, [], ◌∷◌, ◌++◌, length, drop, slice_get, slice_set, Option, Some, None, Result, Ok, Err, if◌then◌else◌, codes, bytes_eq, position}
+use Rattle.std.specs.Prelude.{◌≡◌, ℕ, ◌+◌, nat_lt, nat_eq, Bool, true, false, not, ◌&&◌, ◌||◌, List, [], ◌∷◌, ◌++◌, length, take, drop, slice_get, slice_set, Option, Some, None, Result, Ok, Err, if◌then◌else◌, codes, bytes_eq, position}
+use Rattle.std.specs.List.{prefix_len}
+use Rattle.algorithms.specs.declared.expression.Operator.TheVariants.{Sum, Product, Within}
 use Rattle.algorithms.specs.declared.fault.ReadFault.{ReadFault}
-use Rattle.algorithms.specs.declared.line.Members.{Members}
 use Rattle.algorithm_texts.specs.declared.lines.Block.{Block}
 use Rattle.algorithm_texts.specs.declared.lines.Block.TheVariants.{If, Else, For}
 use Rattle.algorithm_texts.specs.declared.lines.Opened.{Opened}
@@ -13,7 +14,7 @@ use Rattle.algorithm_texts.specs.Grammar.{Scope, is_among, is_constant_name, pri
 use Rattle.algorithm_texts.specs.Operands.{reserved, RefusesAs}
 use Rattle.algorithm_texts.specs.Stacks.{read_part}
 use Rattle.algorithm_texts.specs.Fronts.{is_the_word, is_the_sign, letters_of, value_if, past_word, past_sign, is_over, deed_said, members_said, past_withdraw, value_tokens, value_rest, begins_no_simple}
-use Rattle.algorithm_texts.specs.Drafts.{SharedWord, DraftAction, Loading, Storing, Awaiting, Swapping, LineForm, Accessing, Assigning, Noting, Going, Branching, Beginning, Repeating, Ending, leading, Drafted}
+use Rattle.algorithm_texts.specs.Drafts.{SharedWord, DraftMembers, AllProcesses, Rising, Falling, members_form, PlacedLine, DraftExtent, OneWord, OfProcesses, OfSize, OfRows, DraftAction, Loading, Storing, Awaiting, Swapping, LineForm, Accessing, Assigning, Noting, Going, Branching, Beginning, Repeating, Ending, leading, Drafted}
 
 -- what a function makes of a draft is what the definition gives, where that is something. Else its fault is of this kind
 abbrev pub Drafts : {A : Type 0} → Drafted → Result A ReadFault → Option Drafted → ReadFault → Type 0
@@ -86,30 +87,51 @@ with_names names d = record d { names = names }
 abbrev pub with_form : LineForm → Drafted → Drafted
 with_form form d = record d { lines = d.lines ++ record { number = d.number; form = form } ∷ [] }
 
-abbrev pub is_each : Option Bool → Bool
-is_each None = false
-is_each (Some each) = each
+abbrev pub extent_or_one : Option DraftExtent → DraftExtent
+extent_or_one None = OneWord
+extent_or_one (Some extent) = extent
 
--- the index of a word where there is one for each process, the tokens after it, and the names
-abbrev pub read_index : Scope → Bool → List (List ℕ) → List Token → Option (Option Term × List Token × List (List ℕ))
-read_index scope false names tokens = if is_the_sign (slice_get tokens 0) OpenIndex then None else Some (None, tokens, names)
-read_index scope true names tokens = do
+-- an index in brackets, the tokens after it, and the names
+abbrev pub read_brackets : Scope → List (List ℕ) → List Token → Option (Term × List Token × List (List ℕ))
+read_brackets scope names tokens = do
   inner ← past_sign tokens OpenIndex
   v ← read_value scope names (value_tokens inner)
   rest ← past_sign (value_rest inner) CloseIndex
-  Some (Some v.0, rest, v.1)
+  Some (v.0, rest, v.1)
+
+abbrev pub read_one_index : Scope → List (List ℕ) → List Token → Option (Option Term × List Token × List (List ℕ))
+read_one_index scope names tokens = do
+  i ← read_brackets scope names tokens
+  Some (Some i.0, i.1, i.2)
+
+-- the place of a word in a table with this number of words in a row, of which the second index is one
+abbrev pub table_place : Term → Term → Term → Term
+table_place columns i j = Joined Sum (Joined Product i columns) (Joined Within j columns)
+
+abbrev pub read_two_indexes : Scope → Term → List (List ℕ) → List Token → Option (Option Term × List Token × List (List ℕ))
+read_two_indexes scope columns names tokens = do
+  i ← read_brackets scope names tokens
+  j ← read_brackets scope i.2 i.1
+  Some (Some (table_place columns i.0 j.0), j.1, j.2)
+
+-- the place of a word in an array, the tokens after its indexes, and the names
+abbrev pub read_index : Scope → DraftExtent → List (List ℕ) → List Token → Option (Option Term × List Token × List (List ℕ))
+read_index scope OneWord names tokens = if is_the_sign (slice_get tokens 0) OpenIndex then None else Some (None, tokens, names)
+read_index scope OfProcesses names tokens = read_one_index scope names tokens
+read_index scope (OfSize size) names tokens = read_one_index scope names tokens
+read_index scope (OfRows size columns) names tokens = read_two_indexes scope columns names tokens
 
 -- a word of the k-th declaration
-abbrev pub read_word_of : Scope → List Bool → List (List ℕ) → ℕ → List Token → Option (SharedWord × List Token × List (List ℕ))
-read_word_of scope each names k tokens = do
-  i ← read_index scope (is_each (slice_get each k)) names (drop 1 tokens)
+abbrev pub read_word_of : Scope → List DraftExtent → List (List ℕ) → ℕ → List Token → Option (SharedWord × List Token × List (List ℕ))
+read_word_of scope extents names k tokens = do
+  i ← read_index scope (extent_or_one (slice_get extents k)) names (drop 1 tokens)
   Some (record { declaration = k; index = i.0 }, i.1, i.2)
 
-abbrev pub read_word : Scope → List Bool → List (List ℕ) → List Token → Option (SharedWord × List Token × List (List ℕ))
-read_word scope each names tokens = do
+abbrev pub read_word : Scope → List DraftExtent → List (List ℕ) → List Token → Option (SharedWord × List Token × List (List ℕ))
+read_word scope extents names tokens = do
   name ← letters_of (slice_get tokens 0)
   k ← position (λ other. bytes_eq other name) scope.declared
-  read_word_of scope each names k tokens
+  read_word_of scope extents names k tokens
 
 abbrev pub read_deed : Drafted → List Token → Option Drafted
 read_deed d tokens = do
@@ -161,7 +183,7 @@ read_swap_word d name word tokens = do
 -- `WORD to VALUE if CONDITION` after `NAME := swap`
 abbrev pub read_swap : Drafted → ℕ → List Token → Option Drafted
 read_swap d name tokens = do
-  word ← read_word (scope_in d) d.each d.names tokens
+  word ← read_word (scope_in d) d.extents d.names tokens
   read_swap_word (with_names word.2 d) name word.0 word.1
 
 -- `until CONDITION` after `await NAME := swap WORD to VALUE if CONDITION`
@@ -179,7 +201,7 @@ read_await_swap_word d name word tokens = do
 -- `WORD to VALUE if CONDITION until CONDITION` after `await NAME := swap`
 abbrev pub read_awaited_swap : Drafted → ℕ → List Token → Option Drafted
 read_awaited_swap d name tokens = do
-  word ← read_word (scope_in d) d.each d.names tokens
+  word ← read_word (scope_in d) d.extents d.names tokens
   read_await_swap_word (with_names word.2 d) name word.0 word.1
 
 -- ---- statements that are no blocks
@@ -191,7 +213,7 @@ read_awaited_word d name word tokens = do
 
 abbrev pub read_awaited_load : Drafted → ℕ → List Token → Option Drafted
 read_awaited_load d name tokens = do
-  word ← read_word (scope_in d) d.each d.names tokens
+  word ← read_word (scope_in d) d.extents d.names tokens
   read_awaited_word (with_names word.2 d) name word.0 word.1
 
 abbrev pub read_awaited : Drafted → ℕ → List Token → Option Drafted
@@ -209,7 +231,7 @@ read_await d tokens = do
 
 abbrev pub read_store : Drafted → List Token → Option Drafted
 read_store d tokens = do
-  word ← read_word (scope_in d) d.each d.names tokens
+  word ← read_word (scope_in d) d.extents d.names tokens
   inner ← past_sign word.1 Assign
   v ← read_value (scope_in d) word.2 (value_tokens inner)
   read_access (with_names v.1 d) word.0 (Storing v.0) (value_rest inner)
@@ -223,7 +245,7 @@ is_no_word (Some (Sign sign)) = true
 
 abbrev pub read_load : Drafted → ℕ → List Token → Option Drafted
 read_load d name tokens = do
-  word ← read_word (scope_in d) d.each d.names tokens
+  word ← read_word (scope_in d) d.extents d.names tokens
   if is_no_word (slice_get word.1 0) then None else read_access (with_names word.2 d) word.0 (Loading name) word.1
 
 -- a shared word comes next
@@ -338,12 +360,12 @@ read_if d tokens answer = do
 abbrev pub is_loop_of : ℕ → Block → Bool
 is_loop_of name If = false
 is_loop_of name Else = false
-is_loop_of name (For other members) = nat_eq other name
+is_loop_of name (For other) = nat_eq other name
 
 abbrev pub is_loop : Block → Bool
 is_loop If = false
 is_loop Else = false
-is_loop (For other members) = true
+is_loop (For other) = true
 
 -- a loop of this name is open
 abbrev pub is_looping : ℕ → List Opened → Bool
@@ -355,22 +377,72 @@ abbrev pub loops : List Opened → ℕ
 loops [] = 0
 loops (o ∷ os) = if is_loop o.kind then loops os + 1 else loops os
 
-abbrev pub loop_opened : ℕ → Members → Drafted → Option Drafted
+-- ---- loops over numbers: `from VALUE to VALUE`, and `from VALUE down to VALUE`
+
+-- a value of numbers, `me`, `procs` and `limit` alone
+abbrev pub is_fixed : Term → Bool
+is_fixed (NumberTerm n) = true
+is_fixed (Private k) = false
+is_fixed Me = true
+is_fixed Procs = true
+is_fixed Limit = true
+is_fixed (Joined o a b) = is_fixed a && is_fixed b
+
+-- the first end of such a loop ends before this token
+abbrev pub ends_first : Token → Bool
+ends_first token = is_the_word (Some token) (codes "to") || is_the_word (Some token) (codes "down")
+
+abbrev pub first_size : List Token → ℕ
+first_size tokens = prefix_len (λ token. not (ends_first token)) tokens
+
+-- whether the numbers go down, and the tokens after that
+abbrev pub down_at_front : List Token → Bool × List Token
+down_at_front tokens = if is_the_word (slice_get tokens 0) (codes "down") then (true, drop 1 tokens) else (false, tokens)
+
+abbrev pub range_of : Bool → Term → Term → DraftMembers
+range_of true a b = Falling a b
+range_of false a b = Rising a b
+
+-- the second end after the first one, and the names
+abbrev pub read_second_end : Scope → Term → List (List ℕ) → List Token → Option (DraftMembers × List (List ℕ))
+read_second_end scope first names tokens = do
+  rest ← past_word (down_at_front tokens).1 (codes "to")
+  last ← read_value scope names (value_tokens rest)
+  value_if (is_over (value_rest rest) && (is_fixed first && is_fixed last.0)) (Some (range_of (down_at_front tokens).0 first last.0, last.1))
+
+abbrev pub read_range : Scope → List (List ℕ) → List Token → Option (DraftMembers × List (List ℕ))
+read_range scope names tokens = do
+  first ← read_value scope names (take (first_size tokens) tokens)
+  read_second_end scope first.0 first.1 (drop (first_size tokens) tokens)
+
+abbrev pub read_set : List (List ℕ) → List Token → Option (DraftMembers × List (List ℕ))
+read_set names tokens = do
+  members ← members_said tokens
+  Some (members_form members, names)
+
+-- what a loop goes over, and the names
+abbrev pub read_members : Scope → List (List ℕ) → List Token → Option (DraftMembers × List (List ℕ))
+read_members scope names tokens =
+    if is_the_word (slice_get tokens 0) (codes "from") then read_range scope names (drop 1 tokens) else read_set names tokens
+
+-- ---- loops
+
+abbrev pub loop_opened : ℕ → DraftMembers → Drafted → Option Drafted
 loop_opened name members d =
     if is_looping name d.opened then None
-    else if nat_lt (loops d.opened) 2 then opening (length d.lines) (For name members) (with_form (Beginning name members 0) d)
+    else if nat_lt (loops d.opened) 2 then opening (length d.lines) (For name) (with_form (Beginning name members 0) d)
     else None
 
 abbrev pub read_for : Drafted → List Token → Option Drafted
 read_for d tokens = do
   name ← name_set (scope_in d) d.names (slice_get tokens 0)
-  members ← members_said (drop 1 tokens)
-  if nat_lt (index_in name.0) d.lasting then None else loop_opened (index_in name.0) members (with_names name.1 d)
+  members ← read_members (scope_in d) name.1 (drop 1 tokens)
+  if nat_lt (index_in name.0) d.lasting then None else loop_opened (index_in name.0) members.0 (with_names members.1 d)
 
 abbrev pub else_after : Opened → Block → List Opened → Drafted → Option Drafted
 else_after o If os d = opening (length d.lines) Else (landing o.place (closing o os (with_form (Going 0) d)))
 else_after o Else os d = None
-else_after o (For name members) os d = None
+else_after o (For name) os d = None
 
 abbrev pub else_in : List Opened → Drafted → Option Drafted
 else_in [] d = None
@@ -379,15 +451,24 @@ else_in (o ∷ os) d = else_after o o.kind os d
 abbrev pub read_else : Drafted → List Token → Option Drafted
 read_else d tokens = value_if (is_over tokens) (else_in d.opened d)
 
--- the line that begins the next round of a loop
-abbrev pub going_round : ℕ → Block → Drafted → Drafted
-going_round first If d = d
-going_round first Else d = d
-going_round first (For name members) d = with_form (Repeating name members first) d
+-- what a loop goes over, by its head
+abbrev pub members_in : LineForm → DraftMembers
+members_in (Beginning name members after) = members
+members_in other = AllProcesses
+
+abbrev pub members_at : Option PlacedLine → DraftMembers
+members_at None = AllProcesses
+members_at (Some line) = members_in line.form
+
+-- the line that begins the next round of a loop, whose head is at this place
+abbrev pub going_round : ℕ → ℕ → Block → Drafted → Drafted
+going_round at first If d = d
+going_round at first Else d = d
+going_round at first (For name) d = with_form (Repeating name (members_at (slice_get d.lines at)) first) d
 
 abbrev pub end_in : List Opened → Drafted → Option Drafted
 end_in [] d = None
-end_in (o ∷ os) d = Some (landing o.place (closing o os (going_round o.first o.kind d)))
+end_in (o ∷ os) d = Some (landing o.place (closing o os (going_round o.place o.first o.kind d)))
 
 abbrev pub read_end : Drafted → List Token → Option Drafted
 read_end d tokens = value_if (is_over tokens) (end_in d.opened d)

@@ -1,5 +1,5 @@
 -- The fault of a line that has no form. A line is read from the left: the first part that is not what is expected there decides.
-use Rattle.std.specs.Prelude.{ℕ, ◌==◌, nat_lt, Bool, true, false, ◌&&◌, ◌||◌, List, [], ◌∷◌, length, take, drop, slice_get, Option, Some, None, if◌then◌else◌, codes, bytes_eq, position}
+use Rattle.std.specs.Prelude.{ℕ, ◌==◌, nat_lt, Bool, ◌&&◌, ◌||◌, List, [], ◌∷◌, length, take, drop, slice_get, Option, Some, None, if◌then◌else◌, codes, bytes_eq, position}
 use Rattle.std.specs.List.{list_any}
 use Rattle.algorithms.specs.declared.condition.Comparison.TheVariants.{Equal}
 use Rattle.algorithms.specs.declared.fault.ReadFault.{ReadFault}
@@ -13,10 +13,10 @@ use Rattle.algorithm_texts.specs.declared.tokens.Token.TheVariants.{Number as Nu
 use Rattle.algorithm_texts.specs.Parts.{Term, Number, Private, Me, Procs, Limit, Joined, OperandPart, Value, Pair, Condition}
 use Rattle.algorithm_texts.specs.Grammar.{Scope, is_among}
 use Rattle.algorithm_texts.specs.Stacks.{NextToken, Begins, Heads, Follows, OperandReading, reading, turn}
-use Rattle.algorithm_texts.specs.Fronts.{is_the_word, is_the_sign, letters_of, past_word, past_sign, is_over, named_by, members_said, value_tokens, value_rest, begins_no_simple}
-use Rattle.algorithm_texts.specs.Drafts.{Drafted}
-use Rattle.algorithm_texts.specs.LineDrafts.{scope_in, is_constant, has_declaration, new_name, name_set, index_in, with_names, read_value, read_condition, is_each, read_word, read_until, read_swap_value, begins_swap, begins_word, is_no_word, read_test, is_looping}
-use Rattle.algorithm_texts.specs.TextDrafts.{call_words, undeclared_name, is_bound, atoms, is_me, owner_tokens, bound_size, read_bound, read_each, end_call, read_head_words}
+use Rattle.algorithm_texts.specs.Fronts.{is_the_word, is_the_sign, letters_of, past_word, past_sign, is_over, named_by, value_tokens, value_rest, begins_no_simple}
+use Rattle.algorithm_texts.specs.Drafts.{Drafted, DraftExtent, OneWord, OfProcesses, OfSize, OfRows}
+use Rattle.algorithm_texts.specs.LineDrafts.{scope_in, is_constant, has_declaration, new_name, name_set, index_in, with_names, read_value, read_condition, extent_or_one, read_brackets, read_word, read_until, read_swap_value, begins_swap, begins_word, is_no_word, read_test, is_looping, first_size, down_at_front, read_members}
+use Rattle.algorithm_texts.specs.TextDrafts.{call_words, undeclared_name, is_bound, atoms, is_me, owner_tokens, bound_size, read_bound, read_bound_and_start, size_before_home, read_size, read_extent, is_array, end_call, read_head_words}
 
 -- the fault of a part, where nothing is made of it, else that of what follows it
 abbrev pub fault_from : {A : Type 0} → Option A → ReadFault → (A → ReadFault) → ReadFault
@@ -91,23 +91,33 @@ value_fault scope names tokens = run_fault scope tokens (reading names [] Begins
 
 -- ---- parts of a line
 
--- of an index, or of its lack
-abbrev pub read_index_fault : Scope → Bool → List (List ℕ) → List Token → ReadFault
-read_index_fault scope false names tokens = BadForm
-read_index_fault scope true names tokens =
+-- of an index in brackets, or of its lack
+abbrev pub brackets_fault : Scope → List (List ℕ) → List Token → ReadFault
+brackets_fault scope names tokens =
     fault_from (past_sign tokens OpenIndex) BadForm
     (λ inner. fault_from (read_value scope names (value_tokens inner)) (value_fault scope names (value_tokens inner)) (λ v. BadForm))
 
-abbrev pub word_of_fault : Scope → List Bool → List (List ℕ) → List Token → ℕ → ReadFault
-word_of_fault scope each names tokens k = read_index_fault scope (is_each (slice_get each k)) names (drop 1 tokens)
+abbrev pub two_indexes_fault : Scope → List (List ℕ) → List Token → ReadFault
+two_indexes_fault scope names tokens =
+    fault_from (read_brackets scope names tokens) (brackets_fault scope names tokens) (λ i. brackets_fault scope i.2 i.1)
 
-abbrev pub named_word_fault : Scope → List Bool → List (List ℕ) → List Token → List ℕ → ReadFault
-named_word_fault scope each names tokens name =
-    fault_from (position (λ other. bytes_eq other name) scope.declared) UnknownName (word_of_fault scope each names tokens)
+abbrev pub read_index_fault : Scope → DraftExtent → List (List ℕ) → List Token → ReadFault
+read_index_fault scope OneWord names tokens = BadForm
+read_index_fault scope OfProcesses names tokens = brackets_fault scope names tokens
+read_index_fault scope (OfSize size) names tokens = brackets_fault scope names tokens
+read_index_fault scope (OfRows size columns) names tokens = two_indexes_fault scope names tokens
 
--- of a shared word: no name, a name that is not declared, or its index
-abbrev pub shared_word_fault : Scope → List Bool → List (List ℕ) → List Token → ReadFault
-shared_word_fault scope each names tokens = fault_from (letters_of (slice_get tokens 0)) BadForm (named_word_fault scope each names tokens)
+abbrev pub word_of_fault : Scope → List DraftExtent → List (List ℕ) → List Token → ℕ → ReadFault
+word_of_fault scope extents names tokens k = read_index_fault scope (extent_or_one (slice_get extents k)) names (drop 1 tokens)
+
+abbrev pub named_word_fault : Scope → List DraftExtent → List (List ℕ) → List Token → List ℕ → ReadFault
+named_word_fault scope extents names tokens name =
+    fault_from (position (λ other. bytes_eq other name) scope.declared) UnknownName (word_of_fault scope extents names tokens)
+
+-- of a shared word: no name, a name that is not declared, or an index
+abbrev pub shared_word_fault : Scope → List DraftExtent → List (List ℕ) → List Token → ReadFault
+shared_word_fault scope extents names tokens =
+    fault_from (letters_of (slice_get tokens 0)) BadForm (named_word_fault scope extents names tokens)
 
 -- of `until CONDITION`, and of `to VALUE`: the word, or what follows it
 abbrev pub value_after_fault : Scope → List (List ℕ) → List Token → List ℕ → ReadFault
@@ -140,7 +150,7 @@ swap_word_fault d tokens =
 
 abbrev pub swap_fault : Drafted → List Token → ReadFault
 swap_fault d tokens =
-    fault_from (read_word (scope_in d) d.each d.names tokens) (shared_word_fault (scope_in d) d.each d.names tokens)
+    fault_from (read_word (scope_in d) d.extents d.names tokens) (shared_word_fault (scope_in d) d.extents d.names tokens)
     (λ word. swap_word_fault (with_names word.2 d) word.1)
 
 -- of `until CONDITION`, with what follows it
@@ -154,14 +164,14 @@ await_swap_word_fault d tokens =
 
 abbrev pub awaited_swap_fault : Drafted → List Token → ReadFault
 awaited_swap_fault d tokens =
-    fault_from (read_word (scope_in d) d.each d.names tokens) (shared_word_fault (scope_in d) d.each d.names tokens)
+    fault_from (read_word (scope_in d) d.extents d.names tokens) (shared_word_fault (scope_in d) d.extents d.names tokens)
     (λ word. await_swap_word_fault (with_names word.2 d) word.1)
 
 -- ---- statements that are no blocks
 
 abbrev pub awaited_load_fault : Drafted → List Token → ReadFault
 awaited_load_fault d tokens =
-    fault_from (read_word (scope_in d) d.each d.names tokens) (shared_word_fault (scope_in d) d.each d.names tokens)
+    fault_from (read_word (scope_in d) d.extents d.names tokens) (shared_word_fault (scope_in d) d.extents d.names tokens)
     (λ word. awaited_fault (with_names word.2 d) word.1)
 
 abbrev pub take_await_fault : Drafted → List Token → ReadFault
@@ -183,14 +193,17 @@ stored_fault scope names tokens =
 
 abbrev pub store_fault : Drafted → List Token → ReadFault
 store_fault d tokens =
-    fault_from (read_word (scope_in d) d.each d.names tokens) (shared_word_fault (scope_in d) d.each d.names tokens)
+    fault_from (read_word (scope_in d) d.extents d.names tokens) (shared_word_fault (scope_in d) d.extents d.names tokens)
     (λ word. stored_fault (scope_in d) word.2 word.1)
 
--- a number or a sign after a shared word makes it part of a value
+-- of a number or a sign after a word that is loaded: an index too many, or the word is part of a value
+abbrev pub loaded_word_fault : Option Token → ReadFault
+loaded_word_fault token = if is_the_sign token OpenIndex then BadForm else TwoAccesses
+
 abbrev pub load_fault : Drafted → List Token → ReadFault
 load_fault d tokens =
-    fault_from (read_word (scope_in d) d.each d.names tokens) (shared_word_fault (scope_in d) d.each d.names tokens)
-    (λ word. if is_no_word (slice_get word.1 0) then TwoAccesses else BadForm)
+    fault_from (read_word (scope_in d) d.extents d.names tokens) (shared_word_fault (scope_in d) d.extents d.names tokens)
+    (λ word. if is_no_word (slice_get word.1 0) then loaded_word_fault (slice_get word.1 0) else BadForm)
 
 -- a deed or `may withdraw` after a line that takes no step
 abbrev pub undone_fault : List Token → ReadFault
@@ -257,21 +270,37 @@ branch_fault d tokens = fault_from (read_test d tokens) (test_fault d tokens) (�
 abbrev pub loop_fault : ℕ → List Opened → ReadFault
 loop_fault name opened = if is_looping name opened then NameTaken else TooBig
 
+-- of the second end of a loop over numbers, after the first one
+abbrev pub second_end_fault : Scope → List (List ℕ) → List Token → ReadFault
+second_end_fault scope names tokens =
+    fault_from (past_word (down_at_front tokens).1 (codes "to")) BadForm
+    (λ rest. fault_from (read_value scope names (value_tokens rest)) (value_fault scope names (value_tokens rest)) (λ last. BadForm))
+
+abbrev pub range_fault : Scope → List (List ℕ) → List Token → ReadFault
+range_fault scope names tokens =
+    fault_from (read_value scope names (take (first_size tokens) tokens)) (value_fault scope names (take (first_size tokens) tokens))
+    (λ first. second_end_fault scope first.1 (drop (first_size tokens) tokens))
+
+-- of what a loop goes over
+abbrev pub members_fault : Scope → List (List ℕ) → List Token → ReadFault
+members_fault scope names tokens = if is_the_word (slice_get tokens 0) (codes "from") then range_fault scope names (drop 1 tokens) else BadForm
+
 -- a declared private name comes before what follows it
 abbrev pub for_name_fault : Drafted → ℕ → List Token → ReadFault
 for_name_fault d name tokens =
-    if nat_lt name d.lasting then NameTaken else fault_from (members_said tokens) BadForm (λ members. loop_fault name d.opened)
+    if nat_lt name d.lasting then NameTaken
+    else fault_from (read_members (scope_in d) d.names tokens) (members_fault (scope_in d) d.names tokens) (λ members. loop_fault name d.opened)
 
 abbrev pub for_fault : Drafted → List Token → ReadFault
 for_fault d tokens =
     fault_from (name_set (scope_in d) d.names (slice_get tokens 0)) (name_set_fault (scope_in d) (slice_get tokens 0))
-    (λ name. for_name_fault d (index_in name.0) (drop 1 tokens))
+    (λ name. for_name_fault (with_names name.1 d) (index_in name.0) (drop 1 tokens))
 
 -- of an `else` in this block. In that of an `if` it has none: one block ends where the other begins
 abbrev pub else_after_fault : Block → ReadFault
 else_after_fault If = TooBig
 else_after_fault Else = BadBlock
-else_after_fault (For name members) = BadBlock
+else_after_fault (For name) = BadBlock
 
 abbrev pub else_in_fault : List Opened → ReadFault
 else_in_fault [] = BadBlock
@@ -302,26 +331,45 @@ limit_fault scope names tokens =
     (λ up. fault_from (past_word up (codes "to")) BadForm
     (λ rest. fault_from (read_value scope names (value_tokens rest)) (value_fault scope names (value_tokens rest)) (λ v. BadForm)))
 
--- of a first value: the word before it, `me`, its value, or what is not of its form
-abbrev pub first_value_fault : Scope → Bool → List (List ℕ) → List Token → ReadFault
-first_value_fault scope each names tokens =
-    fault_from (past_word tokens (codes "starts")) BadForm
+-- of a value after this word: the word, `me`, its value, or what is not of its form
+abbrev pub owner_value_fault : Scope → Bool → List ℕ → List (List ℕ) → List Token → ReadFault
+owner_value_fault scope each word names tokens =
+    fault_from (past_word tokens word) BadForm
     (λ rest. if list_any is_me rest then BadForm
     else fault_from (read_value scope names (owner_tokens each (value_tokens rest))) (value_fault scope names (owner_tokens each (value_tokens rest)))
     (λ v. BadForm))
+
+abbrev pub start_fault : Scope → Bool → List (List ℕ) → List Token → ReadFault
+start_fault scope each names tokens = owner_value_fault scope each (codes "starts") names tokens
+
+abbrev pub home_fault : Scope → Bool → List (List ℕ) → List Token → ReadFault
+home_fault scope each names tokens = owner_value_fault scope each (codes "at") names tokens
 
 -- of a bound and a first value, in this order
 abbrev pub bound_and_start_fault : Scope → Bool → List (List ℕ) → List Token → ReadFault
 bound_and_start_fault scope each names tokens =
     fault_from (read_bound scope names (take (bound_size tokens) tokens)) (limit_fault scope names (take (bound_size tokens) tokens))
-    (λ bound. first_value_fault scope each bound.1 (drop (bound_size tokens) tokens))
+    (λ bound. start_fault scope each bound.1 (drop (bound_size tokens) tokens))
+
+-- of them and a home, in this order
+abbrev pub word_values_fault : Scope → Bool → List (List ℕ) → List Token → ReadFault
+word_values_fault scope each names tokens =
+    fault_from (read_bound_and_start scope each names (take (size_before_home tokens) tokens))
+    (bound_and_start_fault scope each names (take (size_before_home tokens) tokens))
+    (λ v. home_fault scope each v.2 (drop (size_before_home tokens) tokens))
+
+-- of the sizes of an array
+abbrev pub extent_fault : Scope → List (List ℕ) → List Token → ReadFault
+extent_fault scope names tokens =
+    fault_from (read_size scope names tokens) (brackets_fault scope names tokens) (λ size. brackets_fault scope size.2 size.1)
 
 -- a shared word too many comes before what follows its name
 abbrev pub shared_fault : Drafted → List Token → ReadFault
 shared_fault d tokens =
     fault_from (undeclared_name (scope_in d) d.names (slice_get tokens 0)) (undeclared_name_fault (slice_get tokens 0))
     (λ name. if nat_lt (length d.declared) 64
-    then fault_from (read_each (drop 1 tokens)) BadForm (λ each. bound_and_start_fault (scope_in d) each.0 d.names each.1)
+    then fault_from (read_extent (scope_in d) d.names (drop 1 tokens)) (extent_fault (scope_in d) d.names (drop 1 tokens))
+    (λ extent. word_values_fault (scope_in d) (is_array extent.0) extent.2 extent.1)
     else TooBig)
 
 -- a private name too many comes before what follows it

@@ -74,6 +74,6 @@ abbrev pub SpellOne : Type 0
 SpellOne = (text : List ℕ) (a b : InitializedAlgorithm) → SpellsAlgorithm text a → SpellsAlgorithm text b
     → (d : Drafted) × IsInitializedBy d a × IsInitializedBy d b
 
--- where a text says no first value and names no constant, all words are 0 at the beginning
+-- where a text says no first value, names no constant and has no array of a size, all words are 0 at the beginning
 abbrev pub BeginAtZero : Type 0
 BeginAtZero = (text : List ℕ) (a : InitializedAlgorithm) (s : SpellsAlgorithm text a) → s.draft.says_values ≡ false → a ≡ from_zeros a.algorithm

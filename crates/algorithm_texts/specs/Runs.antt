@@ -1,14 +1,13 @@
 -- Runs of a call, from line to line. Which way a branch goes is not asked.
 use Rattle.std.specs.Prelude.{◌≡◌, ◌⊎◌, ℕ, zero, suc, ◌+◌, ◌≤◌, ◌<◌, nat_eq, nat_lt, Bool, true, false, not, ◌&&◌, ◌||◌, List, [], slice_get, length, Option, Some, None, if◌then◌else◌}
 use Rattle.std.specs.List.{list_all, list_any}
-use Rattle.algorithms.specs.Ranked.{has_round}
 use Rattle.algorithms.specs.declared.algorithm.AlgorithmCall.{AlgorithmCall}
 use Rattle.algorithm_texts.specs.declared.flow.RunKind.{RunKind}
 use Rattle.algorithm_texts.specs.declared.flow.RunKind.TheVariants.{All, Silent, Without}
 use Rattle.algorithm_texts.specs.declared.lines.CallRead.{CallRead}
 use Rattle.algorithm_texts.specs.declared.lines.Jump.{Jump}
 use Rattle.algorithm_texts.specs.Drafts.{LineForm, Accessing, Noting, Going, Beginning, Repeating, Ending, PlacedLine, Drafted}
-use Rattle.algorithm_texts.specs.FinishedDrafts.{call_in, is_within, ways}
+use Rattle.algorithm_texts.specs.FinishedDrafts.{loop_has_round, call_in, is_within, ways}
 use Rattle.algorithm_texts.specs.Usage.{reads, sets, begins_loop, ends_loop, uses, passes_at}
 
 -- ---- ways
@@ -56,7 +55,7 @@ IsReachedSilently d call at = RunComesTo d call Silent (λ first. first ≡ call
 
 -- the place after a loop with this name, at the lines from which a run can go on there
 abbrev pub way_past : ℕ → ℕ → ℕ → LineForm → Option ℕ
-way_past name least next (Beginning k members after) = if nat_eq k name then (if has_round least members then None else Some after) else None
+way_past name least next (Beginning k members after) = if nat_eq k name then (if loop_has_round least members then None else Some after) else None
 way_past name least next (Repeating k members body) = if nat_eq k name then Some next else None
 way_past name least next other = None
 

@@ -6,16 +6,17 @@ use Rattle.algorithms.specs.declared.algorithm.AlgorithmCall.{AlgorithmCall}
 use Rattle.algorithms.specs.declared.algorithm.AlgorithmCall.TheVariants.{Lock, Unlock, Recover, Withdraw}
 use Rattle.algorithms.specs.declared.algorithm.Promises.{Promises}
 use Rattle.algorithms.specs.declared.condition.Comparison.TheVariants.{Equal}
+use Rattle.algorithms.specs.declared.expression.Operator.TheVariants.{Product}
 use Rattle.algorithm_texts.specs.declared.lines.CallRead.{CallRead}
 use Rattle.algorithm_texts.specs.declared.lines.Opened.{Opened}
-use Rattle.algorithm_texts.specs.declared.tokens.Sign.TheVariants.{Comma, OpenIndex, CloseIndex, Comparison}
+use Rattle.algorithm_texts.specs.declared.tokens.Sign.TheVariants.{Comma, OpenIndex, Comparison}
 use Rattle.algorithm_texts.specs.declared.tokens.Token.{Token}
 use Rattle.algorithm_texts.specs.declared.tokens.Token.TheVariants.{Number as NumberToken, Word, Sign}
 use Rattle.algorithm_texts.specs.Parts.{Term, Number, Private, Me, Procs, Limit, Joined, ◌>>=◌}
 use Rattle.algorithm_texts.specs.Grammar.{Scope, is_among}
 use Rattle.algorithm_texts.specs.Fronts.{is_the_word, is_the_sign, value_if, past_word, past_sign, is_over, named_by, value_tokens, value_rest}
-use Rattle.algorithm_texts.specs.Drafts.{Drafted}
-use Rattle.algorithm_texts.specs.LineDrafts.{read_value, scope_in, new_name, has_declaration, with_names, read_statement}
+use Rattle.algorithm_texts.specs.Drafts.{Drafted, DraftExtent, OneWord, OfProcesses, OfSize, OfRows}
+use Rattle.algorithm_texts.specs.LineDrafts.{read_value, read_brackets, scope_in, new_name, has_declaration, with_names, read_statement}
 
 -- ---- calls
 
@@ -108,12 +109,56 @@ read_constant d tokens = do
   v ← read_constant_value (scope_in d) d.names (drop 1 tokens)
   Some (with_constant name v.0 (with_names v.1 d))
 
--- `[procs]`, where it comes next, and the tokens after it
-abbrev pub read_each : List Token → Option (Bool × List Token)
-read_each tokens =
-    if is_the_sign (slice_get tokens 0) OpenIndex then
-    (if is_the_word (slice_get tokens 1) (codes "procs") && is_the_sign (slice_get tokens 2) CloseIndex then Some (true, drop 3 tokens) else None)
-    else Some (false, tokens)
+-- `[VALUE]`: a size, the tokens after it, and the private names after it
+abbrev pub read_size : Scope → List (List ℕ) → List Token → Option (Term × List Token × List (List ℕ))
+read_size scope names tokens = do
+  size ← read_brackets scope names tokens
+  value_if (is_bound size.0 && (length size.2 == length names)) (Some size)
+
+abbrev pub is_procs : Term → Bool
+is_procs (Number n) = false
+is_procs (Private k) = false
+is_procs Me = false
+is_procs Procs = true
+is_procs Limit = false
+is_procs (Joined o a b) = false
+
+-- an array of this size. That of `procs` has a word for each process
+abbrev pub extent_by : Term → DraftExtent
+extent_by size = if is_procs size then OfProcesses else OfSize size
+
+-- a second size, where it comes next, after the first one
+abbrev pub read_columns : Scope → Term → List (List ℕ) → List Token → Option (DraftExtent × List Token × List (List ℕ))
+read_columns scope rows names tokens = do
+  columns ← read_size scope names tokens
+  Some (OfRows (Joined Product rows columns.0) columns.0, columns.1, columns.2)
+
+abbrev pub read_array : Scope → Term → List (List ℕ) → List Token → Option (DraftExtent × List Token × List (List ℕ))
+read_array scope size names tokens =
+    if is_the_sign (slice_get tokens 0) OpenIndex then read_columns scope size names tokens else Some (extent_by size, tokens, names)
+
+abbrev pub read_sizes : Scope → List (List ℕ) → List Token → Option (DraftExtent × List Token × List (List ℕ))
+read_sizes scope names tokens = do
+  size ← read_size scope names tokens
+  read_array scope size.0 size.2 size.1
+
+-- `[A]` or `[A][B]`, where it comes next, the tokens after it, and the private names after it
+abbrev pub read_extent : Scope → List (List ℕ) → List Token → Option (DraftExtent × List Token × List (List ℕ))
+read_extent scope names tokens =
+    if is_the_sign (slice_get tokens 0) OpenIndex then read_sizes scope names tokens else Some (OneWord, tokens, names)
+
+abbrev pub is_array : DraftExtent → Bool
+is_array OneWord = false
+is_array OfProcesses = true
+is_array (OfSize size) = true
+is_array (OfRows size columns) = true
+
+-- an array of another size than `procs`
+abbrev pub has_own_size : DraftExtent → Bool
+has_own_size OneWord = false
+has_own_size OfProcesses = false
+has_own_size (OfSize size) = true
+has_own_size (OfRows size columns) = true
 
 -- `up to VALUE`, where it comes next, and the private names after it
 abbrev pub read_limit : Scope → List (List ℕ) → List Token → Option (Option Term × List (List ℕ))
@@ -133,7 +178,7 @@ is_starts token = is_the_word (Some token) (codes "starts")
 abbrev pub bound_size : List Token → ℕ
 bound_size tokens = prefix_len (λ token. not (is_starts token)) tokens
 
--- in the first values of an array `owner` is the index of the word. It is read as `me`, which is refused there
+-- in the first values and the homes of an array `owner` is the index of the word. It is read as `me`, which is refused there
 abbrev pub owner_token : Token → Token
 owner_token token = if is_the_word (Some token) (codes "owner") then Word (codes "me") else token
 
@@ -144,23 +189,24 @@ abbrev pub is_me : Token → Bool
 is_me token = is_the_word (Some token) (codes "me")
 
 -- a value of numbers, `procs`, `limit` and, of an array, the index of the word
-abbrev pub is_first_value : Bool → Term → Bool
-is_first_value each (Number n) = true
-is_first_value each (Private k) = false
-is_first_value each Me = each
-is_first_value each Procs = true
-is_first_value each Limit = true
-is_first_value each (Joined o a b) = is_first_value each a && is_first_value each b
+abbrev pub is_owner_value : Bool → Term → Bool
+is_owner_value each (Number n) = true
+is_owner_value each (Private k) = false
+is_owner_value each Me = each
+is_owner_value each Procs = true
+is_owner_value each Limit = true
+is_owner_value each (Joined o a b) = is_owner_value each a && is_owner_value each b
 
--- `starts VALUE`, and the private names after it
-abbrev pub read_first_value : Scope → Bool → List (List ℕ) → List Token → Option (Option Term × List (List ℕ))
-read_first_value scope each names tokens = do
-  rest ← past_word tokens (codes "starts")
+-- such a value after this word, and the private names after it
+abbrev pub read_owner_value : Scope → Bool → List ℕ → List (List ℕ) → List Token → Option (Option Term × List (List ℕ))
+read_owner_value scope each word names tokens = do
+  rest ← past_word tokens word
   v ← if list_any is_me rest then None else read_value scope names (owner_tokens each (value_tokens rest))
-  value_if (is_over (value_rest rest) && (is_first_value each v.0 && (length v.1 == length names))) (Some (Some v.0, v.1))
+  value_if (is_over (value_rest rest) && (is_owner_value each v.0 && (length v.1 == length names))) (Some (Some v.0, v.1))
 
+-- `starts VALUE`, where it comes next, and the private names after it
 abbrev pub read_start : Scope → Bool → List (List ℕ) → List Token → Option (Option Term × List (List ℕ))
-read_start scope each names tokens = if is_over tokens then Some (None, names) else read_first_value scope each names tokens
+read_start scope each names tokens = if is_over tokens then Some (None, names) else read_owner_value scope each (codes "starts") names tokens
 
 -- the bound and the first value of a word, where they are said, and the private names after them
 abbrev pub read_bound_and_start : Scope → Bool → List (List ℕ) → List Token → Option (Option Term × Option Term × List (List ℕ))
@@ -169,23 +215,50 @@ read_bound_and_start scope each names tokens = do
   start ← read_start scope each bound.1 (drop (bound_size tokens) tokens)
   Some (bound.0, start.0, start.1)
 
-abbrev pub with_declaration : List ℕ → Bool → Option Term → Drafted → Drafted
-with_declaration name each bound d = record d {
+-- the home of a word begins with this token, and its bound and its first value end before it
+abbrev pub begins_home : Token → Bool
+begins_home token = is_the_word (Some token) (codes "at")
+
+abbrev pub size_before_home : List Token → ℕ
+size_before_home tokens = prefix_len (λ token. not (begins_home token)) tokens
+
+-- `at VALUE`, where it comes next, and the private names after it
+abbrev pub read_home : Scope → Bool → List (List ℕ) → List Token → Option (Option Term × List (List ℕ))
+read_home scope each names tokens = if is_over tokens then Some (None, names) else read_owner_value scope each (codes "at") names tokens
+
+-- the bound, the first value and the home of a word, where they are said, and the private names after them
+abbrev pub read_word_values : Scope → Bool → List (List ℕ) → List Token → Option (Option Term × Option Term × Option Term × List (List ℕ))
+read_word_values scope each names tokens = do
+  v ← read_bound_and_start scope each names (take (size_before_home tokens) tokens)
+  home ← read_home scope each v.2 (drop (size_before_home tokens) tokens)
+  Some (v.0, v.1, home.0, home.1)
+
+abbrev pub with_declaration : List ℕ → DraftExtent → Option Term → Option Term → Drafted → Drafted
+with_declaration name extent bound home d = record d {
   declared = d.declared ++ name ∷ [];
-  each = d.each ++ each ∷ [];
-  head = record d.head { bounds = d.head.bounds ++ bound ∷ [] };
+  extents = d.extents ++ extent ∷ [];
+  head = record d.head { bounds = d.head.bounds ++ bound ∷ []; homes = d.head.homes ++ home ∷ [] };
 }
 
 -- the words of one more declaration have this first value, or none is said
 abbrev pub with_start : Option Term → Drafted → Drafted
 with_start start d = record d { starts = d.starts ++ start ∷ []; says_values = is_some start || d.says_values }
 
+-- an array of a size is declared, so that worlds have it at their sizes alone
+abbrev pub with_size : DraftExtent → Drafted → Drafted
+with_size extent d = record d { says_values = has_own_size extent || d.says_values }
+
+-- the values that are said of the words of a name, up to the end of the line
+abbrev pub read_declared_words : Drafted → List ℕ → DraftExtent → List Token → Option Drafted
+read_declared_words d name extent tokens = do
+  v ← read_word_values (scope_in d) (is_array extent) d.names tokens
+  Some (with_start v.1 (with_declaration name extent v.0 v.2 (with_size extent (with_names v.3 d))))
+
 abbrev pub read_shared : Drafted → List Token → Option Drafted
 read_shared d tokens = do
   name ← undeclared_name (scope_in d) d.names (slice_get tokens 0)
-  each ← if nat_lt (length d.declared) 64 then read_each (drop 1 tokens) else None
-  v ← read_bound_and_start (scope_in d) each.0 d.names each.1
-  Some (with_start v.1 (with_declaration name each.0 v.0 (with_names v.2 d)))
+  extent ← if nat_lt (length d.declared) 64 then read_extent (scope_in d) d.names (drop 1 tokens) else None
+  read_declared_words (with_names extent.2 d) name extent.0 extent.1
 
 abbrev pub with_lasting : List ℕ → Drafted → Drafted
 with_lasting name d = record d { names = d.names ++ name ∷ []; lasting = length d.names + 1 }
@@ -248,12 +321,44 @@ abbrev pub promise_at_front : List Token → List ℕ → Bool × List Token
 promise_at_front tokens word =
     if is_the_sign (slice_get tokens 0) Comma && is_the_word (slice_get tokens 1) word then (true, drop 2 tokens) else (false, tokens)
 
+-- `within NUMBER`, and the tokens after it
+abbrev pub read_within : List Token → Option (ℕ × List Token)
+read_within tokens = do
+  rest ← past_word tokens (codes "within")
+  most ← number_in (slice_get rest 0)
+  Some (most, drop 1 rest)
+
+abbrev pub with_bound : ℕ × List Token → Option (Option ℕ × List Token)
+with_bound w = Some (Some w.0, w.1)
+
+-- the bound on the own steps of a section, where it comes next, and the tokens after it
+abbrev pub bound_at_front : List Token → List ℕ → Option (Option ℕ × List Token)
+bound_at_front tokens word =
+    if (promise_at_front tokens word).0 then read_within (promise_at_front tokens word).1 >>= with_bound
+    else Some (None, (promise_at_front tokens word).1)
+
+-- the bounds on the own steps of the exit, of the recovery and of the doorway, up to the end of the line. Without order there is no
+-- doorway
+abbrev pub read_bounds : Bool → Bool → List Token → Option Promises
+read_bounds reentry order tokens = do
+  exit ← bound_at_front tokens (codes "exit")
+  recovery ← bound_at_front exit.1 (codes "recovery")
+  doorway ← bound_at_front recovery.1 (codes "doorway")
+  value_if (is_over doorway.1 && not (is_some doorway.0 && not order))
+      (Some (record { reentry = reentry; order = order; exit = exit.0; recovery = recovery.0; doorway = doorway.0 }))
+
+-- what follows `exclusion`
+abbrev pub read_further_promises : List Token → Option Promises
+read_further_promises tokens =
+    read_bounds (promise_at_front tokens (codes "reentry")).0
+    (promise_at_front (promise_at_front tokens (codes "reentry")).1 (codes "order")).0
+    (promise_at_front (promise_at_front tokens (codes "reentry")).1 (codes "order")).1
+
 abbrev pub read_promises : List Token → Option Promises
 read_promises tokens = do
   rest ← past_word tokens (codes "promises")
   more ← past_word rest (codes "exclusion")
-  value_if (is_over (promise_at_front (promise_at_front more (codes "reentry")).1 (codes "order")).1)
-      (Some (record { reentry = (promise_at_front more (codes "reentry")).0; order = (promise_at_front (promise_at_front more (codes "reentry")).1 (codes "order")).0 }))
+  read_further_promises more
 
 -- an algorithm of this name with nothing in it
 pub record IsEmpty (a : Algorithm) (name : List ℕ) (least most : ℕ) : Type 0 where
@@ -286,10 +391,11 @@ empty_draft head promises number = record {
     promises = promises;
     constants = [];
     bounds = [];
+    homes = [];
     entries = record { lock = 0; unlock = 0; recover = None; withdraw = None };
   };
   declared = [];
-  each = [];
+  extents = [];
   starts = [];
   says_values = false;
   lasting = 0;

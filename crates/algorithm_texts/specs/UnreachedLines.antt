@@ -7,7 +7,7 @@ use Rattle.algorithms.specs.declared.first_values.FirstValues.{FirstValues}
 use Rattle.algorithms.specs.declared.first_values.InitializedAlgorithm.{InitializedAlgorithm}
 use Rattle.algorithm_texts.specs.Operands.{names_of, declared_of}
 use Rattle.algorithm_texts.specs.Parts.{Term}
-use Rattle.algorithm_texts.specs.Drafts.{LineForm, Ending, PlacedLine, head_of, each_of, answers_of, lines_of, start_term, Drafted}
+use Rattle.algorithm_texts.specs.Drafts.{LineForm, Ending, PlacedLine, head_of, extents_of, answers_of, lines_of, start_term, Drafted}
 use Rattle.algorithm_texts.specs.FinishedDrafts.{is_in, is_way, ways}
 use Rattle.algorithm_texts.specs.Runs.{RunsComeTo}
 
@@ -63,7 +63,7 @@ pub record EndUnreached (d : Drafted) (lines : List PlacedLine) : Type 0 where
 pub record IsDraftOf (d : Drafted) (a : Algorithm) : Type 0 where
   pub head : head_of a ≡ d.head
   pub declared : declared_of a ≡ d.declared
-  pub each : each_of a ≡ d.each
+  pub extents : extents_of a ≡ d.extents
   pub lasting : a.lasting ≡ d.lasting
   pub names : names_of a ≡ d.names
   pub answers : answers_of a ≡ d.answers
@@ -74,7 +74,7 @@ abbrev pub starts_in : Option FirstValues → Option (List (Option Term))
 starts_in None = None
 starts_in (Some v) = Some (map start_term v.starts.items)
 
--- there are some where the draft says one or names a constant
+-- there are some where the draft says one, names a constant, or has an array of a size
 abbrev pub said_starts : Drafted → Option (List (Option Term))
 said_starts d = if d.says_values then Some d.starts else None
 

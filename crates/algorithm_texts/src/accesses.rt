@@ -1,21 +1,22 @@
 //! Accesses of shared words: loads, stores, swaps and awaits.
 
-ghost use Rattle.std.specs.Prelude.{◌≡◌, Some, MatchResult, position, bytes_eq, true};
+ghost use Rattle.std.specs.Prelude.{◌≡◌, Some, MatchResult, position, bytes_eq};
 ghost use Rattle.std.specs.Option.{option_copied, option_map};
 ghost use Rattle.algorithms.specs.declared.fault.ReadFault.TheVariants.{BadForm as NoForm};
 ghost use Rattle.algorithm_texts.specs.Parts.{term_of, formula_of};
 ghost use Rattle.algorithm_texts.specs.Operands.{RefusesAs, declared_of};
-ghost use Rattle.algorithm_texts.specs.Drafts.{draft_view, word_of, act_of};
-ghost use Rattle.algorithm_texts.specs.LineDrafts.{Drafts, scope_in, with_names, read_index, read_word_of, read_word, read_until, read_deed, read_access, begins_swap, read_guard_condition, read_guard, read_swap_value, read_swap_word, read_swap, read_await_swap, read_await_swap_word, read_awaited_swap, read_awaited_word, read_awaited_load, read_awaited, read_await_of, read_await, read_store, read_load, begins_word, is_no_word};
-ghost use Rattle.algorithm_texts.specs.LineFaults.{read_index_fault, word_of_fault, shared_word_fault, until_fault, guard_condition_fault, guard_fault, swap_value_fault, swap_word_fault, swap_fault, awaited_fault, await_swap_word_fault, awaited_swap_fault, awaited_load_fault, take_await_fault, await_of_fault, await_fault, store_fault, load_fault};
+ghost use Rattle.algorithm_texts.specs.Drafts.{draft_view, extent_of, word_of, act_of};
+ghost use Rattle.algorithm_texts.specs.LineDrafts.{Drafts, scope_in, with_names, read_brackets, read_one_index, read_two_indexes, read_index, read_word_of, read_word, read_until, read_deed, read_access, begins_swap, read_guard_condition, read_guard, read_swap_value, read_swap_word, read_swap, read_await_swap, read_await_swap_word, read_awaited_swap, read_awaited_word, read_awaited_load, read_awaited, read_await_of, read_await, read_store, read_load, begins_word, is_no_word};
+ghost use Rattle.algorithm_texts.specs.LineFaults.{brackets_fault, two_indexes_fault, read_index_fault, word_of_fault, shared_word_fault, until_fault, guard_condition_fault, guard_fault, swap_value_fault, swap_word_fault, swap_fault, awaited_fault, await_swap_word_fault, awaited_swap_fault, awaited_load_fault, take_await_fault, await_of_fault, await_fault, store_fault, loaded_word_fault, load_fault};
 
+use crate::extents::table_place;
 use crate::lines::Draft;
 use crate::names::{declaration_of, is_declared, is_name};
 use crate::parts::{
     after, after_sign, after_withdraw, after_word, deed_said, letters, split_value,
 };
 use crate::tokens::{LineWord, Sign, Token, is_sign, is_word};
-use algorithms::algorithm::Algorithm;
+use algorithms::algorithm::{Algorithm, Extent};
 use algorithms::condition::Condition;
 use algorithms::expression::Expression;
 use algorithms::fault::ReadFault;
@@ -36,6 +37,17 @@ fn is_no_word(token: Option<&Token>) -> bool
     match token {
         Some(Token::Sign(_) | Token::Number(_)) => true,
         Some(Token::Word(_)) | None => false,
+    }
+}
+
+/// The fault of a number or a sign after a word that is loaded: an index too many, or the word is part of a value.
+fn loaded_word_fault(token: Option<&Token>) -> ReadFault
+    ensures { result ≡ loaded_word_fault (option_copied token.entry) }
+{
+    if is_sign(token, Sign::OpenIndex) {
+        ReadFault::BadForm
+    } else {
+        ReadFault::TwoAccesses
     }
 }
 
@@ -60,44 +72,87 @@ pub fn begins_swap(tokens: &[Token]) -> bool
 
 impl Draft {
     /// An index in brackets, and the tokens after it.
-    fn take_index<'t>(
+    pub fn brackets<'t>(
         &mut self,
         alloc: Global,
         tokens: &'t [Token],
-    ) -> Result<(Option<Expression>, &'t [Token]), ReadFault>
+    ) -> Result<(Expression, &'t [Token]), ReadFault>
         ensures index { MatchResult result
-            (λ r. read_index (scope_in (draft_view self.old)) true (draft_view self.old).names tokens.now
-            ≡ Some (option_map (λ i. term_of i) r.0, r.1.now, (draft_view self.new).names))
-            (λ fault. RefusesAs fault (read_index (scope_in (draft_view self.old)) true (draft_view self.old).names tokens.now)
-            (read_index_fault (scope_in (draft_view self.old)) true (draft_view self.old).names tokens.now)) }
+            (λ r. read_brackets (scope_in (draft_view self.old)) (draft_view self.old).names tokens.now
+            ≡ Some (term_of r.0, r.1.now, (draft_view self.new).names))
+            (λ fault. RefusesAs fault (read_brackets (scope_in (draft_view self.old)) (draft_view self.old).names tokens.now)
+            (brackets_fault (scope_in (draft_view self.old)) (draft_view self.old).names tokens.now)) }
         ensures kept { draft_view self.new ≡ with_names (draft_view self.new).names (draft_view self.old) }
     {
         let (part, rest) = split_value(after_sign(tokens, Sign::OpenIndex)?);
         let index = self.value(alloc, part)?;
         let rest = after_sign(rest, Sign::CloseIndex)?;
-        Ok((Some(index), rest))
+        Ok((index, rest))
     }
 
-    /// The index of a shared word, where there is one for each process, and the tokens after it.
-    fn index<'t>(
+    /// The place of a word in an array, and the tokens after its index.
+    fn one_index<'t>(
         &mut self,
         alloc: Global,
-        each: bool,
         tokens: &'t [Token],
     ) -> Result<(Option<Expression>, &'t [Token]), ReadFault>
         ensures index { MatchResult result
-            (λ r. read_index (scope_in (draft_view self.old)) each (draft_view self.old).names tokens.now
+            (λ r. read_one_index (scope_in (draft_view self.old)) (draft_view self.old).names tokens.now
             ≡ Some (option_map (λ i. term_of i) r.0, r.1.now, (draft_view self.new).names))
-            (λ fault. RefusesAs fault (read_index (scope_in (draft_view self.old)) each (draft_view self.old).names tokens.now)
-            (read_index_fault (scope_in (draft_view self.old)) each (draft_view self.old).names tokens.now)) }
+            (λ fault. RefusesAs fault (read_one_index (scope_in (draft_view self.old)) (draft_view self.old).names tokens.now)
+            (brackets_fault (scope_in (draft_view self.old)) (draft_view self.old).names tokens.now)) }
         ensures kept { draft_view self.new ≡ with_names (draft_view self.new).names (draft_view self.old) }
     {
-        if each {
-            self.take_index(alloc, tokens)
-        } else if is_sign(tokens.first(), Sign::OpenIndex) {
-            Err(ReadFault::BadForm)
-        } else {
-            Ok((None, tokens))
+        let (index, rest) = self.brackets(alloc, tokens)?;
+        Ok((Some(index), rest))
+    }
+
+    /// The place of a word in a table with this number of words in a row, and the tokens after its two indexes.
+    fn two_indexes<'t>(
+        &mut self,
+        alloc: Global,
+        columns: &Expression,
+        tokens: &'t [Token],
+    ) -> Result<(Option<Expression>, &'t [Token]), ReadFault>
+        ensures index { MatchResult result
+            (λ r. read_two_indexes (scope_in (draft_view self.old)) (term_of columns.now) (draft_view self.old).names tokens.now
+            ≡ Some (option_map (λ i. term_of i) r.0, r.1.now, (draft_view self.new).names))
+            (λ fault. RefusesAs fault
+            (read_two_indexes (scope_in (draft_view self.old)) (term_of columns.now) (draft_view self.old).names tokens.now)
+            (two_indexes_fault (scope_in (draft_view self.old)) (draft_view self.old).names tokens.now)) }
+        ensures kept { draft_view self.new ≡ with_names (draft_view self.new).names (draft_view self.old) }
+    {
+        let (row, rest) = self.brackets(alloc, tokens)?;
+        let (column, rest) = self.brackets(alloc, rest)?;
+        let place = table_place(alloc, columns, row, column)?;
+        Ok((Some(place), rest))
+    }
+
+    /// The place of a word, where there is an array, and the tokens after its indexes.
+    fn index<'t>(
+        &mut self,
+        alloc: Global,
+        extent: &Extent,
+        tokens: &'t [Token],
+    ) -> Result<(Option<Expression>, &'t [Token]), ReadFault>
+        ensures index { MatchResult result
+            (λ r. read_index (scope_in (draft_view self.old)) (extent_of extent.now) (draft_view self.old).names tokens.now
+            ≡ Some (option_map (λ i. term_of i) r.0, r.1.now, (draft_view self.new).names))
+            (λ fault. RefusesAs fault
+            (read_index (scope_in (draft_view self.old)) (extent_of extent.now) (draft_view self.old).names tokens.now)
+            (read_index_fault (scope_in (draft_view self.old)) (extent_of extent.now) (draft_view self.old).names tokens.now)) }
+        ensures kept { draft_view self.new ≡ with_names (draft_view self.new).names (draft_view self.old) }
+    {
+        match extent {
+            Extent::One => {
+                if is_sign(tokens.first(), Sign::OpenIndex) {
+                    Err(ReadFault::BadForm)
+                } else {
+                    Ok((None, tokens))
+                }
+            }
+            Extent::Each | Extent::Array(_) => self.one_index(alloc, tokens),
+            Extent::Table(_, columns) => self.two_indexes(alloc, columns, tokens),
         }
     }
 
@@ -109,17 +164,17 @@ impl Draft {
         tokens: &'t [Token],
     ) -> Result<(WordOf, &'t [Token]), ReadFault>
         ensures word { MatchResult result
-            (λ r. read_word_of (scope_in (draft_view self.old)) (draft_view self.old).each
+            (λ r. read_word_of (scope_in (draft_view self.old)) (draft_view self.old).extents
             (draft_view self.old).names declaration tokens.now
             ≡ Some (word_of r.0, r.1.now, (draft_view self.new).names))
             (λ fault. RefusesAs fault
-            (read_word_of (scope_in (draft_view self.old)) (draft_view self.old).each (draft_view self.old).names declaration tokens.now)
-            (word_of_fault (scope_in (draft_view self.old)) (draft_view self.old).each
+            (read_word_of (scope_in (draft_view self.old)) (draft_view self.old).extents (draft_view self.old).names declaration tokens.now)
+            (word_of_fault (scope_in (draft_view self.old)) (draft_view self.old).extents
             (draft_view self.old).names tokens.now declaration)) }
         ensures kept { draft_view self.new ≡ with_names (draft_view self.new).names (draft_view self.old) }
     {
-        let each = self.has_index(declaration);
-        let (index, rest) = self.index(alloc, each, after(tokens, 1))?;
+        let extent = self.extent_at(alloc, declaration)?;
+        let (index, rest) = self.index(alloc, &extent, after(tokens, 1))?;
         Ok((WordOf { declaration, index }, rest))
     }
 
@@ -130,11 +185,11 @@ impl Draft {
         tokens: &'t [Token],
     ) -> Result<(WordOf, &'t [Token]), ReadFault>
         ensures word { MatchResult result
-            (λ r. read_word (scope_in (draft_view self.old)) (draft_view self.old).each (draft_view self.old).names tokens.now
+            (λ r. read_word (scope_in (draft_view self.old)) (draft_view self.old).extents (draft_view self.old).names tokens.now
             ≡ Some (word_of r.0, r.1.now, (draft_view self.new).names))
             (λ fault. RefusesAs fault
-            (read_word (scope_in (draft_view self.old)) (draft_view self.old).each (draft_view self.old).names tokens.now)
-            (shared_word_fault (scope_in (draft_view self.old)) (draft_view self.old).each (draft_view self.old).names tokens.now)) }
+            (read_word (scope_in (draft_view self.old)) (draft_view self.old).extents (draft_view self.old).names tokens.now)
+            (shared_word_fault (scope_in (draft_view self.old)) (draft_view self.old).extents (draft_view self.old).names tokens.now)) }
         ensures kept { draft_view self.new ≡ with_names (draft_view self.new).names (draft_view self.old) }
     {
         match letters(tokens.first()) {
@@ -417,7 +472,7 @@ impl Draft {
     {
         let (word, rest) = self.word(alloc, tokens)?;
         if is_no_word(rest.first()) {
-            return Err(ReadFault::TwoAccesses);
+            return Err(loaded_word_fault(rest.first()));
         }
         self.access(word, Action::Load { name }, rest)
     }

@@ -4,13 +4,14 @@ ghost use Rattle.std.specs.Prelude.{◌≡◌, ◌∷◌, [], List, length, reve
 ghost use Rattle.algorithms.specs.declared.fault.ReadFault.TheVariants.{OutOfMemory as NoMemory, BadBlock as NoBlock, TooBig as ManyOpen};
 ghost use Rattle.algorithm_texts.specs.declared.lines.Opened.{Opened as OpenedOf};
 ghost use Rattle.algorithm_texts.specs.Operands.{RefusesAs};
-ghost use Rattle.algorithm_texts.specs.Drafts.{draft_view};
+ghost use Rattle.algorithm_texts.specs.Drafts.{draft_view, members_form};
 ghost use Rattle.algorithm_texts.specs.LineDrafts.{Drafts, opening, closing, ended_at, read_test, read_then, read_if, is_loop_of, is_loop, is_looping, loops, loop_opened, read_for, else_in, read_else, going_round, end_in, read_end, read_label, read_statement, block_in};
 ghost use Rattle.algorithm_texts.specs.LineFaults.{test_fault, simple_fault, branch_fault, loop_fault, for_fault, else_in_fault, else_fault, end_fault, label_fault, statement_fault};
 
 use crate::lines::{Block, Draft, Label, Opened};
+use crate::loops::members_at;
 use crate::names::new_name;
-use crate::parts::{after, after_word, begins_no_simple, check_end, members_said, split_value};
+use crate::parts::{after, after_word, begins_no_simple, check_end, split_value};
 use crate::tokens::{Sign, Token, Tokens, is_sign, is_word};
 use algorithms::condition::Condition;
 use algorithms::fault::ReadFault;
@@ -28,7 +29,7 @@ fn is_loop_of(name: usize, block: Block) -> bool
     ensures { result ≡ is_loop_of name block }
 {
     match block {
-        Block::For { name: other, .. } => other == name,
+        Block::For { name: other } => other == name,
         Block::If | Block::Else => false,
     }
 }
@@ -172,7 +173,7 @@ impl Draft {
 
     /// Begins a loop. `NameTaken` where one round it sets its name.
     fn begin_loop(&mut self, name: usize, members: Members) -> Result<(), ReadFault>
-        ensures { Drafts (draft_view self.new) result (loop_opened name members (draft_view self.old))
+        ensures { Drafts (draft_view self.new) result (loop_opened name (members_form members) (draft_view self.old))
             (loop_fault name (draft_view self.old).opened) }
     {
         if is_looping(self.opened.as_slice(), name) {
@@ -186,10 +187,10 @@ impl Draft {
             members,
             after: 0,
         })?;
-        self.open(place, Block::For { name, members })
+        self.open(place, Block::For { name })
     }
 
-    /// `for NAME in MEMBERS`.
+    /// `for NAME in MEMBERS`, or `for NAME from VALUE to VALUE`.
     fn loop_head(&mut self, alloc: Global, tokens: &[Token]) -> Result<(), ReadFault>
         ensures { Drafts (draft_view self.new) result (read_for (draft_view self.old) tokens.now)
             (for_fault (draft_view self.old) tokens.now) }
@@ -198,7 +199,7 @@ impl Draft {
         if name < self.algorithm.lasting {
             return Err(ReadFault::NameTaken);
         }
-        let members = members_said(after(tokens, 1))?;
+        let members = self.members(alloc, after(tokens, 1))?;
         self.begin_loop(name, members)
     }
 
@@ -231,13 +232,14 @@ impl Draft {
     }
 
     /// Adds the line that begins the next round of a loop, where the block is one.
-    fn go_round(&mut self, opened: Opened) -> Result<(), ReadFault>
-        ensures ok { OnOk result (draft_view self.new ≡ going_round opened.first opened.kind (draft_view self.old)) }
+    fn go_round(&mut self, alloc: Global, opened: Opened) -> Result<(), ReadFault>
+        ensures ok { OnOk result (draft_view self.new ≡ going_round opened.place opened.first opened.kind (draft_view self.old)) }
         ensures err { IfErr result (λ fault. fault ≡ NoMemory) }
     {
         match opened.kind {
-            Block::For { name, members } => {
+            Block::For { name } => {
                 let body = opened.first;
+                let members = members_at(alloc, self.algorithm.lines.as_slice(), opened.place)?;
                 self.add_local(LocalLine::Next {
                     name,
                     members,
@@ -250,22 +252,22 @@ impl Draft {
     }
 
     /// Ends the innermost block, and lets its first line lead past it.
-    fn end_innermost(&mut self) -> Result<(), ReadFault>
+    fn end_innermost(&mut self, alloc: Global) -> Result<(), ReadFault>
         ensures { Drafts (draft_view self.new) result (end_in (draft_view self.old).opened (draft_view self.old)) NoBlock }
     {
         let opened = self.innermost_block().ok_or(ReadFault::BadBlock)?;
-        self.go_round(opened)?;
+        self.go_round(alloc, opened)?;
         self.close();
         self.land(opened.place);
         Ok(())
     }
 
     /// `end`.
-    fn end(&mut self, tokens: &[Token]) -> Result<(), ReadFault>
+    fn end(&mut self, alloc: Global, tokens: &[Token]) -> Result<(), ReadFault>
         ensures { Drafts (draft_view self.new) result (read_end (draft_view self.old) tokens.now) (end_fault tokens.now) }
     {
         check_end(tokens)?;
-        self.end_innermost()
+        self.end_innermost(alloc)
     }
 
     /// The innermost block, by its index.
@@ -312,7 +314,7 @@ impl Draft {
         } else if is_word(first, b"else") {
             self.take_else(after(tokens, 1))
         } else if is_word(first, b"end") {
-            self.end(after(tokens, 1))
+            self.end(alloc, after(tokens, 1))
         } else if is_sign(tokens.get(1), Sign::Colon) {
             self.label(tokens)
         } else {

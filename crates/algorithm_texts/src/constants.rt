@@ -35,7 +35,7 @@ pub fn is_constant_name(algorithm: &Algorithm, word: &[u8]) -> bool
 }
 
 /// A copy of a value.
-fn copy_value(alloc: Global, value: &Expression) -> Result<Expression, ReadFault>
+pub fn copy_value(alloc: Global, value: &Expression) -> Result<Expression, ReadFault>
     ensures ok { IfOk result (λ copy. term_of copy ≡ term_of value.now) }
     ensures err { IfErr result (λ fault. fault ≡ NoMemory) }
 {

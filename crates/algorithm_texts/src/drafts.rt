@@ -11,9 +11,10 @@ ghost use Rattle.algorithm_texts.specs.LineFaults.{head_fault, line_fault, promi
 ghost use Rattle.algorithm_texts.specs.TextFaults.{BeginsDraft, IsFaultOfForms, IsFaultOfHead, IsFaultOfLater, IsFaultOfLines, IsFaultOfSecond, IsFaultOfTokens, OrMemory, StopsOnLine};
 ghost use Rattle.algorithm_texts.specs.Tokens.{LineSays};
 
-use crate::calls::{head, promises};
+use crate::calls::head;
 use crate::filled::Filled;
 use crate::lines::Draft;
+use crate::promises::promises;
 use crate::tokens::{tail, tokens_of};
 use algorithms::algorithm::{Algorithm, Promises};
 use algorithms::fault::{AlgorithmFault, ReadFault};

@@ -1,4 +1,4 @@
-//! The first values of shared words, as texts say them.
+//! The first values of shared words, as texts say them, and values in which `owner` is the index of a word.
 
 ghost use Rattle.std.specs.Prelude.{◌≡◌, map, take, drop, position, Some, Ok, IfOk, IfErr, MatchResult};
 ghost use Rattle.std.specs.List.{list_any};
@@ -7,8 +7,8 @@ ghost use Rattle.algorithm_texts.specs.Parts.{term_of};
 ghost use Rattle.algorithm_texts.specs.Operands.{RefusesAs};
 ghost use Rattle.algorithm_texts.specs.Drafts.{draft_view, start_term};
 ghost use Rattle.algorithm_texts.specs.LineDrafts.{scope_in, with_names, read_value};
-ghost use Rattle.algorithm_texts.specs.LineFaults.{value_fault, first_value_fault};
-ghost use Rattle.algorithm_texts.specs.TextDrafts.{is_starts, bound_size, owner_token, owner_tokens, is_me, is_first_value, read_first_value, read_start};
+ghost use Rattle.algorithm_texts.specs.LineFaults.{value_fault, owner_value_fault, start_fault};
+ghost use Rattle.algorithm_texts.specs.TextDrafts.{is_starts, bound_size, owner_token, owner_tokens, is_me, is_owner_value, read_owner_value, read_start};
 
 use crate::lines::Draft;
 use crate::parts::{after_word, split_value};
@@ -81,15 +81,15 @@ fn has_me(tokens: &[Token]) -> bool
 }
 
 /// Whether a value is made of numbers, `procs`, `limit` and, of an array, the index of the word.
-fn is_first_value(each: bool, value: &Expression) -> bool
-    ensures { result ≡ is_first_value each (term_of value.now) }
+fn is_owner_value(each: bool, value: &Expression) -> bool
+    ensures { result ≡ is_owner_value each (term_of value.now) }
 {
     match value {
         Expression::Number(_) | Expression::Procs | Expression::Limit => true,
         Expression::Me => each,
         Expression::Private(_) => false,
         Expression::Joined(_, left, right) => {
-            is_first_value(each, left) && is_first_value(each, right)
+            is_owner_value(each, left) && is_owner_value(each, right)
         }
     }
 }
@@ -118,22 +118,23 @@ impl Draft {
         }
     }
 
-    /// A first value after `starts`, up to the end of the line.
-    fn first_value(
+    /// A value after this word, in which `owner` may be the index of the word of an array, up to the end of the tokens.
+    pub fn owner_value(
         &mut self,
         alloc: Global,
         each: bool,
+        word: &[u8],
         tokens: &[Token],
     ) -> Result<Expression, ReadFault>
         ensures value { MatchResult result
-            (λ v. read_first_value (scope_in (draft_view self.old)) each (draft_view self.old).names tokens.now
+            (λ v. read_owner_value (scope_in (draft_view self.old)) each word.now (draft_view self.old).names tokens.now
             ≡ Some (Some (term_of v), (draft_view self.new).names))
             (λ fault. RefusesAs fault
-            (read_first_value (scope_in (draft_view self.old)) each (draft_view self.old).names tokens.now)
-            (first_value_fault (scope_in (draft_view self.old)) each (draft_view self.old).names tokens.now)) }
+            (read_owner_value (scope_in (draft_view self.old)) each word.now (draft_view self.old).names tokens.now)
+            (owner_value_fault (scope_in (draft_view self.old)) each word.now (draft_view self.old).names tokens.now)) }
         ensures kept { draft_view self.new ≡ with_names (draft_view self.new).names (draft_view self.old) }
     {
-        let rest = after_word(tokens, b"starts")?;
+        let rest = after_word(tokens, word)?;
         if has_me(rest) {
             return Err(ReadFault::BadForm);
         }
@@ -141,7 +142,7 @@ impl Draft {
         let known = self.algorithm.names.len();
         let value = self.value_by_owner(alloc, each, part)?;
         if rest.is_empty()
-            && (is_first_value(each, &value) && self.algorithm.names.len() == known)
+            && (is_owner_value(each, &value) && self.algorithm.names.len() == known)
         {
             Ok(value)
         } else {
@@ -149,7 +150,7 @@ impl Draft {
         }
     }
 
-    /// A first value, where there is one, up to the end of the line.
+    /// A first value, where there is one, up to the end of the tokens.
     pub fn start(
         &mut self,
         alloc: Global,
@@ -161,13 +162,13 @@ impl Draft {
             ≡ Some (start_term v, (draft_view self.new).names))
             (λ fault. RefusesAs fault
             (read_start (scope_in (draft_view self.old)) each (draft_view self.old).names tokens.now)
-            (first_value_fault (scope_in (draft_view self.old)) each (draft_view self.old).names tokens.now)) }
+            (start_fault (scope_in (draft_view self.old)) each (draft_view self.old).names tokens.now)) }
         ensures kept { draft_view self.new ≡ with_names (draft_view self.new).names (draft_view self.old) }
     {
         if tokens.is_empty() {
             Ok(None)
         } else {
-            Ok(Some(self.first_value(alloc, each, tokens)?))
+            Ok(Some(self.owner_value(alloc, each, b"starts", tokens)?))
         }
     }
 }

@@ -9,10 +9,10 @@ ghost use Rattle.algorithm_texts.specs.Runs.{is_access, goes_on, ways_from, RunC
 
 use crate::checks::is_within;
 use crate::lines::{CallRead, Draft};
+use crate::loops::has_round;
 use crate::marks::is_in;
 use crate::usage::{begins_loop, ends_loop, sets};
 use algorithms::line::{LineKind, LocalLine};
-use algorithms::loops::has_round;
 use std::alloc::{AllocError, Global};
 
 /// Which runs are asked for.
@@ -72,7 +72,7 @@ fn local_ways(line: &LocalLine, least: u64, next: usize) -> Ways
         LocalLine::Goto(target) => one_way(*target),
         LocalLine::Branch { otherwise, .. } => two_ways(next, *otherwise),
         LocalLine::First { members, after, .. } => {
-            if has_round(least, *members) {
+            if has_round(least, members) {
                 one_way(next)
             } else {
                 two_ways(next, *after)
@@ -137,7 +137,7 @@ fn local_way_past(line: &LocalLine, name: usize, least: u64, next: usize) -> Opt
             after,
         } => {
             if *own == name {
-                if has_round(least, *members) {
+                if has_round(least, members) {
                     None
                 } else {
                     Some(*after)

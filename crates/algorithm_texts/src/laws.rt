@@ -1,6 +1,7 @@
 //! Laws of the format.
 
 ghost use Rattle.algorithm_texts.specs.Blocks.{MakeBlocks};
+ghost use Rattle.algorithm_texts.specs.Likeness.{SpellAlike};
 ghost use Rattle.algorithm_texts.specs.Sayings.{AreReadAsSaid};
 ghost use Rattle.algorithm_texts.specs.Operands.{SayOnePart};
 ghost use Rattle.algorithm_texts.specs.Programs.{BeginAtZero, SpellOne};
@@ -32,7 +33,8 @@ pub fn a_text_spells_one_draft()
     ensures { SpellOne }
 {}
 
-/// A text that says no first value and names no constant spells an algorithm whose words are all 0 at the beginning.
+/// A text that says no first value, names no constant and has no array of another size than `procs` spells an algorithm whose words
+/// are all 0 at the beginning.
 pub fn a_text_without_values_begins_at_zero()
     ensures { BeginAtZero }
 {}
@@ -40,4 +42,9 @@ pub fn a_text_without_values_begins_at_zero()
 /// The fault of a text whose lines do not say tokens is at the first line with which they no longer do.
 pub fn the_first_faulty_line_is_named()
     ensures { NamesFirstLine }
+{}
+
+/// The algorithms that a text spells are the same in all that a text says, the numbers of the lines among it.
+pub fn a_text_spells_one_algorithm()
+    ensures { SpellAlike }
 {}

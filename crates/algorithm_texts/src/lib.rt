@@ -1,7 +1,7 @@
-//! Reads algorithms of mutual exclusion from texts. A text that breaks a rule of the format is refused, with the line and the
-//! first rule that it breaks. What an algorithm is, and how it runs, is in `algorithms`.
+//! Reads algorithms of mutual exclusion from texts, and writes them as texts. A text that breaks a rule of the format is refused,
+//! with the line and the first rule that it breaks. What an algorithm is, and how it runs, is in `algorithms`.
 //!
-//! Main items: `read_algorithm`, `flow`, `laws`.
+//! Main items: `read_algorithm`, `write_algorithm`, `laws`.
 #![tactic(auto)]
 
 mod accesses;
@@ -10,22 +10,30 @@ mod calls;
 mod checks;
 mod constants;
 mod drafts;
+mod extents;
 mod filled;
 mod first_values;
 mod flow;
+mod homes;
 pub mod laws;
+mod likeness;
 mod lines;
+mod loops;
 mod marks;
 mod names;
 mod operands;
 mod parts;
+mod promises;
 mod rounds;
 mod runs;
+mod shared_words;
 mod simple;
 mod stack;
 mod tokens;
 mod usage;
 mod values;
 mod whole;
+mod writer;
 
 pub use whole::read_algorithm;
+pub use writer::{WritingFault, write_algorithm};

@@ -6,7 +6,7 @@ ghost use Rattle.algorithms.specs.declared.fault.ReadFault.TheVariants.{OutOfMem
 ghost use Rattle.algorithm_texts.specs.Parts.{term_of, formula_of};
 ghost use Rattle.algorithm_texts.specs.Operands.{RefusesAs, MakesName};
 ghost use Rattle.algorithm_texts.specs.Drafts.{draft_view, form_of, local_form, line_of, form_with_place, leading};
-ghost use Rattle.algorithm_texts.specs.LineDrafts.{scope_in, read_value, read_condition, name_set, with_names, with_form, landing, is_each};
+ghost use Rattle.algorithm_texts.specs.LineDrafts.{scope_in, read_value, read_condition, name_set, with_names, with_form, landing};
 ghost use Rattle.algorithm_texts.specs.LineFaults.{name_set_fault, value_fault};
 
 use crate::names::name_set;
@@ -16,7 +16,7 @@ use algorithms::algorithm::{Algorithm, AlgorithmCall};
 use algorithms::condition::Condition;
 use algorithms::expression::Expression;
 use algorithms::fault::ReadFault;
-use algorithms::line::{AlgorithmLine, LineKind, LocalLine, Members};
+use algorithms::line::{AlgorithmLine, LineKind, LocalLine};
 use std::alloc::Global;
 
 /// A block whose end is not read yet: the place of its first line, and what it is.
@@ -34,7 +34,7 @@ pub struct Opened {
 pub enum Block {
     If,
     Else,
-    For { name: usize, members: Members },
+    For { name: usize },
 }
 
 /// A label: its name, its place, the block in which it stands, and its line.
@@ -70,7 +70,7 @@ pub struct Draft {
     pub algorithm: Algorithm,
     /// The first value of the words of each declaration, where one is said.
     pub starts: Vec<Option<Expression>>,
-    /// Whether a first value or a constant is said.
+    /// Whether a first value, a constant, or an array of another size than `procs` is said.
     pub says_values: bool,
     pub opened: Vec<Opened>,
     /// The first place of each block, and the place after it.
@@ -176,15 +176,5 @@ impl Draft {
         ensures kept { draft_view self.new ≡ with_names (draft_view self.new).names (draft_view self.old) }
     {
         name_set(alloc, &mut self.algorithm, token)
-    }
-
-    /// Whether a declaration has a word for each process.
-    pub fn has_index(&self, declaration: usize) -> bool
-        ensures { result ≡ is_each (slice_get (draft_view self.now).each declaration) }
-    {
-        match self.algorithm.declarations.get(declaration) {
-            Some(declared) => declared.each,
-            None => false,
-        }
     }
 }

@@ -7,9 +7,9 @@ ghost use Rattle.algorithm_texts.specs.Drafts.{form_of, head_of, line_of, lines_
 ghost use Rattle.algorithm_texts.specs.FinishedDrafts.{is_way, is_in, ways};
 ghost use Rattle.algorithm_texts.specs.UnreachedLines.{line_stays, lines_stay, is_marked_where, entries_marked, ended_line, ended_at, ended_from};
 
+use crate::loops::has_round;
 use algorithms::algorithm::{Algorithm, Entries};
 use algorithms::line::{AlgorithmLine, LineKind, LocalLine};
-use algorithms::loops::has_round;
 use std::mem::replace;
 
 /// Whether a place is marked.
@@ -32,7 +32,7 @@ fn local_stays(least: u64, marks: &[bool], next: usize, line: &LocalLine) -> boo
         LocalLine::Goto(place) => is_in(marks, *place),
         LocalLine::Branch { otherwise, .. } => is_in(marks, next) && is_in(marks, *otherwise),
         LocalLine::First { members, after, .. } => {
-            if has_round(least, *members) {
+            if has_round(least, members) {
                 is_in(marks, next)
             } else {
                 is_in(marks, next) && is_in(marks, *after)

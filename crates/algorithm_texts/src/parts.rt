@@ -5,6 +5,7 @@ ghost use Rattle.std.specs.Option.{option_copied};
 ghost use Rattle.algorithms.specs.declared.fault.ReadFault.TheVariants.{BadForm as NoForm};
 ghost use Rattle.algorithm_texts.specs.Fronts.{past_word, past_sign, is_over, is_the_word, letters_of, named_by, deed_words, members_words, deed_said, members_said, past_withdraw, ends_value, value_tokens, value_rest, begins_no_simple};
 ghost use Rattle.algorithm_texts.specs.LineFaults.{undone_fault};
+ghost use Rattle.algorithm_texts.specs.TextDrafts.{number_in};
 ghost use Rattle.algorithm_texts.specs.Tokens.{value_of_name};
 
 use crate::tokens::{LineWord, Sign, Token, is_sign, is_word};
@@ -101,6 +102,16 @@ pub fn letters(token: Option<&Token>) -> Option<LineWord>
     match token {
         Some(Token::Word(word)) => Some(*word),
         _ => None,
+    }
+}
+
+/// The number at a token.
+pub fn number_at(token: Option<&Token>) -> Option<u64>
+    ensures { result ≡ number_in (option_copied token.entry) }
+{
+    match token {
+        Some(Token::Number(number)) => Some(*number),
+        Some(Token::Word(_) | Token::Sign(_)) | None => None,
     }
 }
 

@@ -3,7 +3,7 @@ use Rattle.std.specs.Option.{option_map}
 use Rattle.algorithms.specs.declared.algorithm.NamedConstant.{NamedConstant}
 use Rattle.algorithms.specs.declared.algorithm.Declaration.{Declaration}
 use Rattle.algorithm_texts.specs.Parts.{term_of}
-use Rattle.algorithm_texts.specs.Drafts.{line_of, start_term}
+use Rattle.algorithm_texts.specs.Drafts.{line_of, extent_of, start_term}
 use Rattle.algorithm_texts.proofs.drafts.new_draft.Goals as goal
 
 pub returns : goal.returns
@@ -15,10 +15,11 @@ returns c = λ h e i. record {
     promises = c.args.promises;
     constants = ap (map (λ (k : NamedConstant). (string_bytes k.name, term_of k.value))) e.no_constants i;
     bounds = ap (map (λ (d : Declaration). option_map (λ b. term_of b) d.bound)) e.no_declarations i;
+    homes = ap (map (λ (d : Declaration). option_map (λ h. term_of h) d.home)) e.no_declarations i;
     entries = e.no_entries i;
   };
   declared = ap (map (λ (d : Declaration). string_bytes d.name)) e.no_declarations i;
-  each = ap (map (λ (d : Declaration). d.each)) e.no_declarations i;
+  extents = ap (map (λ (d : Declaration). extent_of d.extent)) e.no_declarations i;
   starts = ap (map start_term) c.new-6.ensures.items i;
   says_values = false;
   lasting = e.none_last i;

@@ -1,0 +1,429 @@
+//! Whether two algorithms are the same in all that a text says of them.
+
+ghost use Rattle.std.specs.Prelude.{◌≡◌, ◌↔◌, IsTrue, map, string_bytes};
+ghost use Rattle.std.specs.Option.{option_map};
+ghost use Rattle.algorithm_texts.specs.Parts.{term_of};
+ghost use Rattle.algorithm_texts.specs.Drafts.{Beginning, Repeating, access_of, act_of, answers_of, extent_of, form_of, line_of, local_form, members_form, start_term, word_of};
+ghost use Rattle.algorithm_texts.specs.Operands.{names_of};
+ghost use Rattle.algorithm_texts.specs.UnreachedLines.{starts_in};
+ghost use Rattle.algorithm_texts.specs.Likeness.{AreOneAlgorithm, AreDeclaredAlike, AreHeadedAlike, AreOneDeclaration, AreSpelledAlike, AreTitledAlike, named_value, named_values};
+
+mod values;
+
+use crate::likeness::values::{same_condition, same_condition_if, same_value, same_value_if};
+use algorithms::algorithm::{Algorithm, Declaration, Entries, Extent, NamedConstant, Promises};
+use algorithms::expression::Expression;
+use algorithms::first_values::{FirstValues, InitializedAlgorithm};
+use algorithms::line::{AccessLine, Action, AlgorithmLine, LineKind, LocalLine, Members, WordOf};
+
+/// Whether two shared words are the same.
+fn same_word(left: &WordOf, right: &WordOf) -> bool
+    ensures { IsTrue result ↔ (word_of left.now ≡ word_of right.now) }
+{
+    left.declaration == right.declaration && same_value_if(&left.index, &right.index)
+}
+
+/// Whether two accesses do the same with their words.
+fn same_action(left: &Action, right: &Action) -> bool
+    ensures { IsTrue result ↔ (act_of left.now ≡ act_of right.now) }
+{
+    match (left, right) {
+        (Action::Load { name }, Action::Load { name: own }) => *name == *own,
+        (Action::Store { value }, Action::Store { value: other }) => same_value(value, other),
+        (
+            Action::Await { name, until },
+            Action::Await {
+                name: own,
+                until: other,
+            },
+        ) => { *name == *own && same_condition(until, other) }
+        (
+            Action::Swap {
+                name,
+                value,
+                guard,
+                until,
+            },
+            Action::Swap {
+                name: own,
+                value: stored,
+                guard: when,
+                until: end,
+            },
+        ) => {
+            (*name == *own && same_value(value, stored))
+                && (same_condition_if(guard, when) && same_condition_if(until, end))
+        }
+        _ => false,
+    }
+}
+
+/// Whether two accesses are the same.
+fn same_access(left: &AccessLine, right: &AccessLine) -> bool
+    ensures { IsTrue result ↔ (access_of left.now ≡ access_of right.now) }
+{
+    same_word(&left.word, &right.word)
+        && (same_action(&left.action, &right.action) && left.may_withdraw == right.may_withdraw)
+}
+
+/// Whether two loops go over the same processes or numbers.
+fn same_members(left: &Members, right: &Members) -> bool
+    ensures { IsTrue result ↔ (members_form left.now ≡ members_form right.now) }
+{
+    match left {
+        Members::All => matches!(right, Members::All),
+        Members::Others => matches!(right, Members::Others),
+        Members::Lower => matches!(right, Members::Lower),
+        Members::Higher => matches!(right, Members::Higher),
+        Members::Up(first, last) => {
+            if let Members::Up(one, two) = right {
+                same_value(first, one) && same_value(last, two)
+            } else {
+                false
+            }
+        }
+        Members::Down(first, last) => {
+            if let Members::Down(one, two) = right {
+                same_value(first, one) && same_value(last, two)
+            } else {
+                false
+            }
+        }
+    }
+}
+
+/// Whether a line is this head of a loop.
+fn is_first(name: usize, members: &Members, after: usize, line: &LocalLine) -> bool
+    ensures { IsTrue result ↔ (Beginning name (members_form members.now) after ≡ local_form line.now) }
+{
+    if let LocalLine::First {
+        name: own,
+        members: other,
+        after: place,
+    } = line
+    {
+        name == *own && (same_members(members, other) && after == *place)
+    } else {
+        false
+    }
+}
+
+/// Whether a line is this end of a loop.
+fn is_next(name: usize, members: &Members, body: usize, line: &LocalLine) -> bool
+    ensures { IsTrue result ↔ (Repeating name (members_form members.now) body ≡ local_form line.now) }
+{
+    if let LocalLine::Next {
+        name: own,
+        members: other,
+        body: place,
+    } = line
+    {
+        name == *own && (same_members(members, other) && body == *place)
+    } else {
+        false
+    }
+}
+
+/// Whether two local lines are the same.
+fn same_local(left: &LocalLine, right: &LocalLine) -> bool
+    ensures { IsTrue result ↔ (local_form left.now ≡ local_form right.now) }
+{
+    match (left, right) {
+        (
+            LocalLine::Assign { name, value },
+            LocalLine::Assign {
+                name: own,
+                value: other,
+            },
+        ) => { *name == *own && same_value(value, other) }
+        (LocalLine::Note(deed), LocalLine::Note(other)) => *deed == *other,
+        (LocalLine::Goto(place), LocalLine::Goto(other)) => *place == *other,
+        (
+            LocalLine::Branch {
+                condition,
+                otherwise,
+            },
+            LocalLine::Branch {
+                condition: other,
+                otherwise: place,
+            },
+        ) => same_condition(condition, other) && *otherwise == *place,
+        (
+            LocalLine::First {
+                name,
+                members,
+                after,
+            },
+            _,
+        ) => is_first(*name, members, *after, right),
+        (
+            LocalLine::Next {
+                name,
+                members,
+                body,
+            },
+            _,
+        ) => is_next(*name, members, *body, right),
+        _ => false,
+    }
+}
+
+/// Whether two lines are of one form.
+fn same_form(left: &LineKind, right: &LineKind) -> bool
+    ensures { IsTrue result ↔ (form_of left.now ≡ form_of right.now) }
+{
+    match left {
+        LineKind::Access(access) => {
+            if let LineKind::Access(other) = right {
+                same_access(access, other)
+            } else {
+                false
+            }
+        }
+        LineKind::Local(line) => {
+            if let LineKind::Local(other) = right {
+                same_local(line, other)
+            } else {
+                false
+            }
+        }
+        LineKind::Done(answer) => {
+            if let LineKind::Done(other) = right {
+                *answer == *other
+            } else {
+                false
+            }
+        }
+    }
+}
+
+/// Whether two lines are the same, and have one number.
+fn same_line(left: &AlgorithmLine, right: &AlgorithmLine) -> bool
+    ensures { IsTrue result ↔ (line_of left.now ≡ line_of right.now) }
+{
+    left.number == right.number && same_form(&left.form, &right.form)
+}
+
+/// Whether these lines are the same.
+fn same_lines(left: &[AlgorithmLine], right: &[AlgorithmLine]) -> bool
+    ensures { IsTrue result ↔ (map line_of left.now ≡ map line_of right.now) }
+{
+    let mut place = 0;
+    for line in left {
+        match right.get(place) {
+            Some(other) => {
+                if !same_line(line, other) {
+                    return false;
+                }
+            }
+            None => return false,
+        }
+        place += 1;
+    }
+    place == right.len()
+}
+
+/// Whether two names are the same.
+fn same_name(left: &String, right: &String) -> bool
+    ensures { IsTrue result ↔ (string_bytes left.now ≡ string_bytes right.now) }
+{
+    left.as_bytes() == right.as_bytes()
+}
+
+/// Whether these names are the same.
+fn same_names(left: &[String], right: &[String]) -> bool
+    ensures { IsTrue result ↔ (map (λ name. string_bytes name) left.now ≡ map (λ name. string_bytes name) right.now) }
+{
+    let mut place = 0;
+    for name in left {
+        match right.get(place) {
+            Some(other) => {
+                if !same_name(name, other) {
+                    return false;
+                }
+            }
+            None => return false,
+        }
+        place += 1;
+    }
+    place == right.len()
+}
+
+/// Whether two declarations have as many words, in rows of as many.
+fn same_extent(left: &Extent, right: &Extent) -> bool
+    ensures { IsTrue result ↔ (extent_of left.now ≡ extent_of right.now) }
+{
+    match left {
+        Extent::One => matches!(right, Extent::One),
+        Extent::Each => matches!(right, Extent::Each),
+        Extent::Array(size) => {
+            if let Extent::Array(other) = right {
+                same_value(size, other)
+            } else {
+                false
+            }
+        }
+        Extent::Table(size, columns) => {
+            if let Extent::Table(other, own) = right {
+                same_value(size, other) && same_value(columns, own)
+            } else {
+                false
+            }
+        }
+    }
+}
+
+/// Whether two declarations are the same.
+fn same_declaration(left: &Declaration, right: &Declaration) -> bool
+    ensures { IsTrue result ↔ AreOneDeclaration left.now right.now }
+{
+    (left.name.as_bytes() == right.name.as_bytes() && same_extent(&left.extent, &right.extent))
+        && (same_value_if(&left.bound, &right.bound) && same_value_if(&left.home, &right.home))
+}
+
+/// Whether these declarations are the same.
+fn same_declarations(left: &[Declaration], right: &[Declaration]) -> bool
+    ensures { IsTrue result ↔ AreDeclaredAlike left.now right.now }
+{
+    let mut place = 0;
+    for declaration in left {
+        match right.get(place) {
+            Some(other) => {
+                if !same_declaration(declaration, other) {
+                    return false;
+                }
+            }
+            None => return false,
+        }
+        place += 1;
+    }
+    place == right.len()
+}
+
+/// Whether two constants have one name and the same value.
+fn same_constant(left: &NamedConstant, right: &NamedConstant) -> bool
+    ensures { IsTrue result ↔ (named_value left.now ≡ named_value right.now) }
+{
+    left.name.as_bytes() == right.name.as_bytes() && same_value(&left.value, &right.value)
+}
+
+/// Whether these constants are the same.
+fn same_constants(left: &[NamedConstant], right: &[NamedConstant]) -> bool
+    ensures { IsTrue result ↔ (named_values left.now ≡ named_values right.now) }
+{
+    let mut place = 0;
+    for constant in left {
+        match right.get(place) {
+            Some(other) => {
+                if !same_constant(constant, other) {
+                    return false;
+                }
+            }
+            None => return false,
+        }
+        place += 1;
+    }
+    place == right.len()
+}
+
+/// Whether these first values are the same.
+fn same_starts(left: &[Option<Expression>], right: &[Option<Expression>]) -> bool
+    ensures { IsTrue result ↔ (map start_term left.now ≡ map start_term right.now) }
+{
+    let mut place = 0;
+    for start in left {
+        match right.get(place) {
+            Some(other) => {
+                if !same_value_if(start, other) {
+                    return false;
+                }
+            }
+            None => return false,
+        }
+        place += 1;
+    }
+    place == right.len()
+}
+
+/// Whether the words of two algorithms have the same first values, or all are 0 at the beginning of both.
+fn same_first_values(left: &Option<FirstValues>, right: &Option<FirstValues>) -> bool
+    ensures { IsTrue result ↔ (starts_in left.now ≡ starts_in right.now) }
+{
+    match left {
+        Some(values) => {
+            if let Some(others) = right {
+                same_starts(values.starts.as_slice(), others.starts.as_slice())
+            } else {
+                false
+            }
+        }
+        None => right.is_none(),
+    }
+}
+
+/// Whether two algorithms begin their calls at the same places.
+fn same_entries(left: Entries, right: Entries) -> bool
+    ensures { IsTrue result ↔ (left ≡ right) }
+{
+    (left.lock == right.lock && left.unlock == right.unlock)
+        && (left.recover == right.recover && left.withdraw == right.withdraw)
+}
+
+/// Whether two algorithms promise the same.
+fn same_promises(left: Promises, right: Promises) -> bool
+    ensures { IsTrue result ↔ (left ≡ right) }
+{
+    (left.reentry == right.reentry && left.order == right.order)
+        && (left.exit == right.exit
+            && (left.recovery == right.recovery && left.doorway == right.doorway))
+}
+
+/// Whether two algorithms have the same name, numbers of processes and promises.
+fn same_title(left: &Algorithm, right: &Algorithm) -> bool
+    ensures { IsTrue result ↔ AreTitledAlike left.now right.now }
+{
+    (left.name.as_bytes() == right.name.as_bytes() && same_promises(left.promises, right.promises))
+        && (left.least == right.least && left.most == right.most)
+}
+
+/// Whether two algorithms have the same title, constants, declarations and entries.
+fn same_head(left: &Algorithm, right: &Algorithm) -> bool
+    ensures { IsTrue result ↔ AreHeadedAlike left.now right.now }
+{
+    same_title(left, right)
+        && same_constants(left.constants.as_slice(), right.constants.as_slice())
+        && same_declarations(left.declarations.as_slice(), right.declarations.as_slice())
+        && same_entries(left.entries, right.entries)
+}
+
+/// Whether two algorithms have the same private names.
+fn same_private_names(left: &Algorithm, right: &Algorithm) -> bool
+    ensures { IsTrue result ↔ (names_of left.now ≡ names_of right.now) }
+{
+    same_names(left.names.as_slice(), right.names.as_slice())
+}
+
+/// Whether two algorithms have the same answers.
+fn same_answers(left: &Algorithm, right: &Algorithm) -> bool
+    ensures { IsTrue result ↔ (answers_of left.now ≡ answers_of right.now) }
+{
+    same_names(left.answers.as_slice(), right.answers.as_slice())
+}
+
+/// Whether two algorithms have the same declarations, names, answers and lines.
+fn same_algorithm(left: &Algorithm, right: &Algorithm) -> bool
+    ensures { IsTrue result ↔ AreOneAlgorithm left.now right.now }
+{
+    same_head(left, right)
+        && left.lasting == right.lasting
+        && (same_private_names(left, right) && same_answers(left, right))
+        && same_lines(left.lines.as_slice(), right.lines.as_slice())
+}
+
+/// Whether two algorithms are the same in all that a text says of them.
+pub fn is_alike(left: &InitializedAlgorithm, right: &InitializedAlgorithm) -> bool
+    ensures { IsTrue result ↔ AreSpelledAlike left.now right.now }
+{
+    same_algorithm(&left.algorithm, &right.algorithm)
+        && same_first_values(&left.first_values, &right.first_values)
+}

@@ -1,0 +1,194 @@
+//! Writes values and conditions, with as few brackets as they need.
+
+use algorithms::condition::{Comparison, Condition, Pair};
+use algorithms::expression::{Expression, Operator};
+use std::alloc::AllocError;
+use std::fmt::Write;
+
+/// Writes the name of this index, or nothing where there is none.
+pub fn put_name(text: &mut String, names: &[String], name: usize) -> Result<(), AllocError> {
+    match names.get(name) {
+        Some(name) => text.push_str(name.as_str()),
+        None => Ok(()),
+    }
+}
+
+/// How strongly an operator binds. The two that are written before a bracket bind strongest.
+fn strength(operator: Operator) -> u64 {
+    match operator {
+        Operator::Sum | Operator::Difference => 4,
+        Operator::Product | Operator::Quotient | Operator::Remainder | Operator::Within => 5,
+        Operator::Maximum | Operator::Minimum => 6,
+    }
+}
+
+/// What is written between two values. What is written of `Within` is read as no value: no sign spells it but the brackets of an index.
+fn operator_text(operator: Operator) -> &'static str {
+    match operator {
+        Operator::Sum => " + ",
+        Operator::Difference => " - ",
+        Operator::Product => " * ",
+        Operator::Quotient => " / ",
+        Operator::Remainder => " mod ",
+        Operator::Maximum => "max",
+        Operator::Minimum => "min",
+        Operator::Within => " within ",
+    }
+}
+
+/// The first of two values with this operator between them.
+pub fn first_of(operator: Operator, value: &Expression) -> Option<&Expression> {
+    match value {
+        Expression::Joined(own, first, _) if *own == operator => Some(first),
+        _ => None,
+    }
+}
+
+/// The two indexes of a word in a table, by its place: the row times the number of words in a row, and a place within the row.
+fn table_indexes(place: &Expression) -> Option<(&Expression, &Expression)> {
+    match place {
+        Expression::Joined(Operator::Sum, first, second) => {
+            let row = first_of(Operator::Product, first)?;
+            let column = first_of(Operator::Within, second)?;
+            Some((row, column))
+        }
+        _ => None,
+    }
+}
+
+/// What is written between two values or pairs that are compared.
+fn comparison_text(comparison: Comparison) -> &'static str {
+    match comparison {
+        Comparison::Equal => " = ",
+        Comparison::NotEqual => " != ",
+        Comparison::Less => " < ",
+        Comparison::AtMost => " <= ",
+        Comparison::Greater => " > ",
+        Comparison::AtLeast => " >= ",
+    }
+}
+
+/// Writes a value, in brackets where its last operator binds less strongly than this. `me` is the word for the process's number.
+fn put_value_of(
+    text: &mut String,
+    names: &[String],
+    me: &str,
+    value: &Expression,
+    least: u64,
+) -> Result<(), AllocError> {
+    match value {
+        Expression::Number(number) => write!(text, "{number}"),
+        Expression::Private(name) => put_name(text, names, *name),
+        Expression::Me => text.push_str(me),
+        Expression::Procs => text.push_str("procs"),
+        Expression::Limit => text.push_str("limit"),
+        Expression::Joined(operator, first, second) => {
+            let own = strength(*operator);
+            if own > 5 {
+                text.push_str(operator_text(*operator))?;
+                text.push_str("(")?;
+                put_value_of(text, names, me, first, 1)?;
+                text.push_str(", ")?;
+                put_value_of(text, names, me, second, 1)?;
+                return text.push_str(")");
+            }
+            if own < least {
+                text.push_str("(")?;
+            }
+            put_value_of(text, names, me, first, own)?;
+            text.push_str(operator_text(*operator))?;
+            put_value_of(text, names, me, second, own.saturating_add(1))?;
+            if own < least {
+                text.push_str(")")
+            } else {
+                Ok(())
+            }
+        }
+    }
+}
+
+/// Writes a value of a line, in brackets where its last operator binds less strongly than this.
+pub fn put_value(
+    text: &mut String,
+    names: &[String],
+    value: &Expression,
+    least: u64,
+) -> Result<(), AllocError> {
+    put_value_of(text, names, "me", value, least)
+}
+
+/// Writes an index in its brackets.
+fn put_index(text: &mut String, names: &[String], index: &Expression) -> Result<(), AllocError> {
+    text.push_str("[")?;
+    put_value(text, names, index, 1)?;
+    text.push_str("]")
+}
+
+/// Writes the index or the two indexes of the word at a place in an array.
+pub fn put_indexes(
+    text: &mut String,
+    names: &[String],
+    place: &Expression,
+) -> Result<(), AllocError> {
+    match table_indexes(place) {
+        Some((row, column)) => {
+            put_index(text, names, row)?;
+            put_index(text, names, column)
+        }
+        None => put_index(text, names, place),
+    }
+}
+
+/// Writes a value of a declaration, which has no private name and in which `me` is the index of a word.
+pub fn put_declared(text: &mut String, value: &Expression) -> Result<(), AllocError> {
+    put_value_of(text, &[], "owner", value, 1)
+}
+
+/// Writes two values as a pair.
+fn put_pair(text: &mut String, names: &[String], pair: &Pair) -> Result<(), AllocError> {
+    text.push_str("(")?;
+    put_value(text, names, &pair.first, 1)?;
+    text.push_str(", ")?;
+    put_value(text, names, &pair.second, 1)?;
+    text.push_str(")")
+}
+
+/// Writes a condition, in brackets where its last operator binds less strongly than this.
+pub fn put_condition(
+    text: &mut String,
+    names: &[String],
+    condition: &Condition,
+    least: u64,
+) -> Result<(), AllocError> {
+    match condition {
+        Condition::Compare(comparison, first, second) => {
+            put_value(text, names, first, 3)?;
+            text.push_str(comparison_text(*comparison))?;
+            put_value(text, names, second, 4)
+        }
+        Condition::ComparePairs(comparison, first, second) => {
+            put_pair(text, names, first)?;
+            text.push_str(comparison_text(*comparison))?;
+            put_pair(text, names, second)
+        }
+        Condition::And(first, second) => {
+            text.push_str(if least > 2 { "(" } else { "" })?;
+            put_condition(text, names, first, 2)?;
+            text.push_str(" and ")?;
+            put_condition(text, names, second, 3)?;
+            text.push_str(if least > 2 { ")" } else { "" })
+        }
+        Condition::Or(first, second) => {
+            text.push_str(if least > 1 { "(" } else { "" })?;
+            put_condition(text, names, first, 1)?;
+            text.push_str(" or ")?;
+            put_condition(text, names, second, 2)?;
+            text.push_str(if least > 1 { ")" } else { "" })
+        }
+        Condition::Not(condition) => {
+            text.push_str("not (")?;
+            put_condition(text, names, condition, 1)?;
+            text.push_str(")")
+        }
+    }
+}

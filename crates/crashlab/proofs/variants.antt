@@ -7,6 +7,9 @@ pub mod Deviations
 pub mod Repairs
 pub mod Skips
 pub mod VariantRuns
+pub mod EachProcess
+pub mod Senders
+pub mod Looks
 pub mod Choices
 pub mod LockWorlds
 pub mod Scans

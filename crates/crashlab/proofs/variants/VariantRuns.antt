@@ -118,7 +118,7 @@ pub record IsFit (s : VariantState) : Type 0 where
   pub configured : IsVariantConfigured s
   pub each : (p : ℕ) → p < s.layout.procs → Fits (machine_state_at s.processes p)
 
-new_fit : (variant : Variant) (l : Layout) (limit : ℕ) → IsSize l → IsFit (new_world variant l limit)
+pub new_fit : (variant : Variant) (l : Layout) (limit : ℕ) → IsSize l → IsFit (new_world variant l limit)
 new_fit variant l limit sized = record { configured = configured_new variant l limit sized; each = λ p below. subst Fits (sym (rest_at variant l limit 0 l.procs p below)) (resting_fits variant l limit (0 + p) sized.layout) }
 
 start_fit : (s : VariantState) (p : ℕ) (c : Call) (x : Bool) → nat_lt p s.layout.procs ≡ x → (r : Option Refusal) → process_state_refusal s.layout (process_state_of (machine_state_at s.processes p).machine_state) c ≡ r → IsFit s → IsFit (unless (if x then r else Some NoSuchProcess) s (variant_after_start s p c))
@@ -156,7 +156,7 @@ crash_fit s p true e h =
       each = set_each (λ _. Fits) s p (variant_crashed t) h.configured.processes_each (crashed_fits t (h.each p below)) below h.each;
     }
 
-act_fit : (s : VariantState) (act : Act) → IsFit s → IsFit (variant_after_act s act)
+pub act_fit : (s : VariantState) (act : Act) → IsFit s → IsFit (variant_after_act s act)
 act_fit s (Starts p c) h = start_fit s p c (nat_lt p s.layout.procs) refl (process_state_refusal s.layout (process_state_of (machine_state_at s.processes p).machine_state) c) refl h
 act_fit s (Steps p) h = step_fit s p (nat_lt p s.layout.procs) refl (access_at s p) h
 act_fit s (Crashes p) h = crash_fit s p (nat_lt p s.layout.procs) refl h

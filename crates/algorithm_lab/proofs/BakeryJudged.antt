@@ -16,7 +16,7 @@ use Rattle.algorithm_lab.specs.Bakery.{IsBakery}
 use Rattle.algorithm_lab.specs.Monitors.{MonitorState, first_monitor, part_of_start, start_on, step_on, crash_on}
 use Rattle.algorithm_lab.specs.Moves.{MoveResult, moved_by}
 use Rattle.algorithm_lab.proofs.BakeryDeeds.{judge_at, deeds_said}
-use Rattle.algorithm_lab.proofs.BakeryWorlds.{state, Alike, Matches, start_matches, step_matches, crash_matches, first_alike}
+use Rattle.algorithm_lab.proofs.BakeryWorlds.{state, Alike, Matches, start_matches, step_matches, crash_matches, first_alike, first_is}
 
 none_fits : (x y z u low up : Bool) → cond (x && y && z && u) (cond (low && up) None (Some BadLimit)) (Some BadProcs) ≡ None → (u ≡ true) × (up ≡ true)
 none_fits true true true true true true e = (refl, refl)
@@ -50,7 +50,7 @@ module _ (a : Algorithm) (b : IsBakery a) (n limit : ℕ) (most : n ≤ 64) (hig
     pub beside : Beside lock m
 
   pub first_beside : Beside nobody (first_monitor (from_zeros a) n limit)
-  first_beside = record { world = at_rest; rows = _; processes = _; now = _; is = refl; alike = first_alike a b n limit most high }
+  first_beside = record { world = at_rest; rows = _; processes = _; now = _; is = first_is a b n limit most high; alike = first_alike a b n limit most high }
 
   -- nothing happens
   pub stays : (lock : Abstract) (m : MonitorState) → Beside lock m → Led lock [] m

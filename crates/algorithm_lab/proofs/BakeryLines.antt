@@ -4,11 +4,12 @@ use Rattle.std.specs.Prelude.{slice_get, ok_or}
 use Rattle.algorithms.specs.Arrivals.{GoesOn, arrives, arrives_after, local_step_of, ◌>>=◌}
 use Rattle.algorithms.specs.LocalRuns.{local_line_done}
 use Rattle.algorithms.specs.Worlds.{access_at, access_line}
-use Rattle.algorithm_lab.specs.Bakery.{IsBakery, form_of, bound_of, lines}
+use Rattle.algorithm_lab.specs.Bakery.{IsBakery, form_of, bound_of, extent_of, lines}
 use Rattle.algorithms.specs.declared.algorithm.Algorithm.{Algorithm}
 use Rattle.algorithms.specs.declared.algorithm.Declaration.{Declaration}
+use Rattle.algorithms.specs.declared.algorithm.Extent.TheVariants.{Each}
 use Rattle.algorithms.specs.declared.constants.Constants.{Constants}
-use Rattle.algorithms.specs.declared.expression.Expression.{Expression}
+use Rattle.algorithms.specs.declared.expression.Expression.{Expression, Number, Limit}
 use Rattle.algorithms.specs.declared.line.AccessLine.{AccessLine}
 use Rattle.algorithms.specs.declared.line.LineKind.{LineKind}
 use Rattle.algorithms.specs.declared.line.LineKind.TheVariants.{Access, Local, Done}
@@ -45,19 +46,28 @@ mapped_bounds (d ∷ all) = ap suc (mapped_bounds all)
 pub three : (a : Algorithm) → IsBakery a → length a.declarations.items ≡ 3
 three a b = sym (mapped_bounds a.declarations.items) ∙ ap length b.bounds
 
--- the declaration of a word has this bound
+-- the declaration of a word, one for each process, has this bound
 pub record HasBound (all : List Declaration) (index : ℕ) (bound : Option Expression) : Type 0 where
   pub declaration : Declaration
   pub there : slice_get all index ≡ Some declaration
   pub is : declaration.bound ≡ bound
+  pub each : declaration.extent ≡ Each
 
-mapped_bound : (all : List Declaration) (at : ℕ) (f : Option Expression) → slice_get (map bound_of all) at ≡ Some f → HasBound all at f
-mapped_bound [] at f e = cc
-mapped_bound (d ∷ all) zero f e = record { declaration = d; there = refl; is = cc }
-mapped_bound (d ∷ all) (suc at) f e = let rest = mapped_bound all at f e in record { declaration = rest.declaration; there = rest.there; is = rest.is }
+mapped_bound : (all : List Declaration) (at : ℕ) (f : Option Expression) → slice_get (map bound_of all) at ≡ Some f → slice_get (map extent_of all) at ≡ Some Each → HasBound all at f
+mapped_bound [] at f e g = cc
+mapped_bound (d ∷ all) zero f e g = record { declaration = d; there = refl; is = cc; each = cc }
+mapped_bound (d ∷ all) (suc at) f e g = let rest = mapped_bound all at f e g in record { declaration = rest.declaration; there = rest.there; is = rest.is; each = rest.each }
 
-pub has_bound : (all : List Declaration) (bounds : List (Option Expression)) (at : ℕ) (f : Option Expression) → map bound_of all ≡ bounds → slice_get bounds at ≡ Some f → HasBound all at f
-has_bound all bounds at f is e = mapped_bound all at f (ap (λ all. slice_get all at) is ∙ e)
+-- each word that has a bound is one of those of the processes
+each_at : (at : ℕ) (f : Option Expression) → slice_get (Some (Number 1) ∷ Some Limit ∷ Some (Number 1) ∷ []) at ≡ Some f → slice_get (Each ∷ Each ∷ Each ∷ []) at ≡ Some Each
+each_at zero f e = refl
+each_at (suc zero) f e = refl
+each_at (suc (suc zero)) f e = refl
+each_at (suc (suc (suc at))) f e = absurd (cc)
+
+pub has_bound : (a : Algorithm) → IsBakery a → (at : ℕ) (f : Option Expression) → slice_get (Some (Number 1) ∷ Some Limit ∷ Some (Number 1) ∷ []) at ≡ Some f → HasBound a.declarations.items at f
+has_bound a b at f e =
+    mapped_bound a.declarations.items at f (ap (λ all. slice_get all at) b.bounds ∙ e) (ap (λ all. slice_get all at) b.extents ∙ each_at at f e)
 
 -- the access line at a place
 pub access_there : (a : Algorithm) (at : ℕ) (line : AccessLine) → HasForm a.lines.items at (Access line) → access_at a at ≡ Ok line

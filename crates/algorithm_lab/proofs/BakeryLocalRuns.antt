@@ -94,7 +94,7 @@ module _ (a : Algorithm) (b : IsBakery a) (c : Constants) where
   further : (next body x k i m j v : ℕ) (d : NotedDeeds) (o : Option ℕ) → j + 1 < 2 ^ 64 → least_from c Others (j + 1) ≡ o
       → local_line_done c next (Next 4 Others body) (local (next - 1) (names x k i m j v) d) ≡ Some (round_at 4 body next (local (next - 1) (names x k i m j v) d) o)
   further next body x k i m j v d o low e =
-      ap (λ t. option_and_then (λ r. Some (round_at 4 body next (local (next - 1) (names x k i m j v) d) (least_from c Others r))) (fitting t (j + 1))) (lt-ltb (j + 1) (2 ^ 64) low)
+      ap (λ t. option_and_then (λ r. Some (round_at 4 body next (local (next - 1) (names x k i m j v) d) r)) (option_and_then (λ r. Some (least_from c Others r)) (fitting t (j + 1)))) (lt-ltb (j + 1) (2 ^ 64) low)
       ∙ ap (λ r. Some (round_at 4 body next (local (next - 1) (names x k i m j v) d) r)) e
 
   -- after the access 18

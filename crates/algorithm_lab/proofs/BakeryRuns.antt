@@ -18,6 +18,8 @@ use Rattle.algorithm_lab.specs.Monitors.{IsReportedPart, MonitorState, EventPart
 use Rattle.algorithm_lab.specs.Moves.{moved_by}
 use Rattle.algorithm_lab.specs.Replays.{run_unless, run_of, ReplaysAlgorithm}
 use Rattle.algorithm_lab.specs.Reports.{verdict_of}
+use Rattle.algorithm_lab.specs.Sections.{bounds_steps}
+use Rattle.algorithm_lab.proofs.NoExcess.{plain_verdict, run_plain}
 use Rattle.algorithm_lab.specs.Runs.{AlgorithmRun, deeds_of, call_of, event_reports, monitor_transitions, run_on, said_by, start_by, start_part}
 use Rattle.algorithm_lab.specs.declared.run_report.TextReport.{TextReport}
 use Rattle.algorithm_lab.proofs.Runs.{crash_appended, deeds_append, so_of_run, step_appended}
@@ -78,7 +80,9 @@ module _ (a : Algorithm) (b : IsBakery a) (n limit : ℕ) (most : n ≤ 64) (hig
   pub new_is_fine : (all : List Line) → IsFine (run_on 2 (first_monitor (from_zeros a) n limit) all)
   new_is_fine all =
       let led = run_fits 2 (first_monitor (from_zeros a) n limit) all nobody (first_beside a b n limit most high) in
-      record { verdict = legal_is_fine 1 (judge_at n nobody) (judge_at n led.lock) _ led.judged; procs = ap (λ (m : MonitorState). m.world.procs) led.beside.is }
+      let reports = (run_on 2 (first_monitor (from_zeros a) n limit) all).reports in
+      let plain = plain_verdict n reports (run_plain 2 (first_monitor (from_zeros a) n limit) all (ap bounds_steps b.promises)) in
+      record { verdict = plain ∙ legal_is_fine 1 (judge_at n nobody) (judge_at n led.lock) _ led.judged; procs = ap (λ (m : MonitorState). m.world.procs) led.beside.is }
 
 -- the verdict of a replay, and the processes of its world
 pub fine : (a : Algorithm) → IsBakery a → (n limit : ℕ) (all : List Line) → (verdict_of n (run_of (from_zeros a) n limit all).reports ≡ Fine) × ((run_of (from_zeros a) n limit all).left.world.procs ≡ n)

@@ -97,14 +97,15 @@ module _ (a : Algorithm) (b : IsBakery a) (n limit p : ℕ) (own : p < n) (most 
       → ((declaration : Declaration) → declaration.bound ≡ bound → value_stored me store declaration action ≡ Some stores) → is_swap action ≡ false
       → access_of a.declarations.items me store (record { word = record { declaration = d; index = Some index }; action = action; may_withdraw = may }) ≡ Some (access_with d i stores)
   access_is d i index action may store bound stores h e low value alone =
-      ap (λ o. option_and_then (λ declaration. option_and_then (λ j. option_and_then (λ s. Some (access_made action d j s)) (value_stored me store declaration action)) (index_of me store (Some index))) o) h.there
+      ap (λ o. option_and_then (λ declaration. option_and_then (λ j. option_and_then (λ s. Some (access_made action d j s)) (value_stored me store declaration action)) (index_of me store declaration.extent (Some index))) o) h.there
+      ∙ ap (λ extent. option_and_then (λ j. option_and_then (λ s. Some (access_made action d j s)) (value_stored me store h.declaration action)) (index_of me store extent (Some index))) h.each
       ∙ ap (λ o. option_and_then (λ j. option_and_then (λ s. Some (access_made action d j s)) (value_stored me store h.declaration action)) (option_and_then (λ j. fitting (nat_lt j n) j) o)) e
       ∙ ap (λ t. option_and_then (λ j. option_and_then (λ s. Some (access_made action d j s)) (value_stored me store h.declaration action)) (fitting t i)) (lt-ltb i n low)
       ∙ ap (λ o. option_and_then (λ s. Some (access_made action d i s)) o) (value h.declaration h.is)
       ∙ ap (λ b. Some (record { address = record { declaration = d; index = i }; stores = stores; swaps = b })) alone
 
   bounded : (at : ℕ) (f : Option Expression) → slice_get (Some (Number 1) ∷ Some Limit ∷ Some (Number 1) ∷ []) at ≡ Some f → HasBound a.declarations.items at f
-  bounded at f e = has_bound a.declarations.items _ at f b.bounds e
+  bounded at f e = has_bound a b at f e
 
   -- a load, and a store of a number
   loads : (d i : ℕ) (index : Expression) (name : ℕ) (store : List ℕ) (bound : Option Expression) → HasBound a.declarations.items d bound → expression_value me store index ≡ Some i → i < n

@@ -1,22 +1,19 @@
 -- The world of the text beside that of the lock, move by move.
-use Rattle.std.proofs.Common.{◌≡◌, ◌≢◌, ℕ, zero, suc, ◌^◌, ◌<◌, ◌≤◌, true, false, if◌then◌else◌, nat_lt, List, [], ◌∷◌, ◌++◌, length, replicate, Option, Some, None, IsSome, Result, Ok, Err, unwrap_or, refl, sym, ap, ◌∙◌, subst, inl, inr, arith, slice_index_or, slice_set, IfSome, get_or-set_same, get_or-set_other}
+use Rattle.std.proofs.Common.{◌≡◌, ◌≢◌, ℕ, ◌^◌, ◌<◌, ◌≤◌, true, if◌then◌else◌, List, [], ◌∷◌, ◌++◌, length, replicate, Option, Some, None, IsSome, Result, Ok, Err, unwrap_or, refl, sym, ap, ◌∙◌, subst, inl, inr, arith, slice_index_or, slice_set, get_or-set_same, get_or-set_other}
 use Rattle.std.specs.Prelude.{ok_or, option_map, slice_get, is_some}
-use Rattle.std.proofs.lemmas.Bool.{cases_eq, cases_lt, cases_Bool, lt-ltb, le-ltb}
+use Rattle.std.proofs.lemmas.Bool.{cases_eq, cases_lt, lt-ltb, le-ltb}
 use Rattle.std.proofs.lemmas.List.{length-set, length-replicate, get_or-replicate}
 use Rattle.std.proofs.lemmas.Option.{slice_get_past}
 use Rattle.rmecore.specs.AbstractLock.{Abstract, abstract_after, phase_after_crash, nobody}
 use Rattle.rmecore.specs.Machine.{access, kind_of, word_of, carried_value, answer, InLock}
 use Rattle.rmecore.specs.Needs.{put}
-use Rattle.rmecore.specs.Place.{Place, Rest, Dead, Reread, Opening, Door, Shutting, Wait, Inside, Leaving, Withdrawing, Unmarking, Event, Starts, Crashes, Steps, next, place_after_start as lock_started}
+use Rattle.rmecore.specs.Place.{Place, Dead, Event, Starts, Crashes, Steps, next, place_after_start as lock_started}
 use Rattle.rmecore.specs.Refused.{start_refusal as lock_refusal, number_of as lock_number}
 use Rattle.rmecore.specs.World.{World, at_rest, read, after, May, step_deed, words_after_event as lock_stored, write}
 use Rattle.rmecore.specs.declared.access.Access.{Access as LockAccess}
 use Rattle.rmecore.specs.declared.access.Access.TheVariants.{Load as Loads, Store as Stores}
-use Rattle.rmecore.specs.declared.core_call.CoreCall.{CoreCall}
-use Rattle.rmecore.specs.declared.core_call.CoreCall.TheVariants as cores
 use Rattle.rmecore.specs.declared.outer.Outer.{Outer}
 use Rattle.rmecore.specs.declared.outer.Outer.TheVariants as outers
-use Rattle.rmecore.specs.declared.own.Own.{Own}
 use Rattle.rmecore.specs.declared.phase.Phase.{Phase}
 use Rattle.rmecore.specs.declared.phase.Phase.TheVariants as phases
 use Rattle.rmecore.specs.declared.refusal.Refusal.{Refusal}
@@ -25,7 +22,7 @@ use Rattle.rmecore.specs.declared.word.Word.TheVariants.{Choosing as ChoosingOf,
 use Rattle.rmecore.proofs.Accesses.{allowed}
 use Rattle.rmecore.proofs.Bounds.{Bounded, final_bounded, rest_bounded}
 use Rattle.rmecore.proofs.CoreSteps.{KindFits, kind_fits, reads}
-use Rattle.rmecore.proofs.Invariant.{Tied, Fits, phase_of as lock_phase, phase_at, put_same, put_other, within_means, phase_within}
+use Rattle.rmecore.proofs.Invariant.{Tied, put_same, put_other}
 use Rattle.rmecore.proofs.Rows.{after_deed}
 use Rattle.rmecore.proofs.Runs.{kept as keeps, at_first}
 use Rattle.rmecore.proofs.Turns.{turn}
@@ -34,17 +31,21 @@ use Rattle.judge.specs.Legal.{judged_all}
 use Rattle.algorithms.specs.Arrivals.{◌>>=◌}
 use Rattle.algorithm_lab.specs.Bakery.{IsBakery}
 use Rattle.algorithm_lab.specs.Heard.{Heard, deeds_heard, heard_of_crash}
-use Rattle.algorithm_lab.specs.Monitors.{MonitorState, EventPart, answer_reports, first_monitor, is_idle, is_idle_process, part_of, phase_refusal, part_of_start, start_on, step_on, crash_on, then_in, unless as unless_heard}
+use Rattle.algorithm_lab.specs.Monitors.{MonitorState, EventPart, answer_reports, counted_steps, excess_of, first_monitor, first_steps, is_idle, is_idle_process, part_of, phase_of, place_in, with_excess, phase_refusal, part_of_start, start_on, step_on, crash_on, then_in, unless as unless_heard}
 use Rattle.algorithm_lab.specs.Refusals.{number_of as number_of_run}
+use Rattle.algorithm_lab.specs.Sections.{bounds_steps, excess, section_at}
+use Rattle.algorithm_lab.specs.declared.section.BoundedSection.{BoundedSection}
+use Rattle.algorithm_lab.proofs.Sections.{no_bound}
 use Rattle.algorithm_lab.specs.Moves.{ScheduleMove, Start, Step, Crash, Tells, Refuses, MoveResult, all_said, left_by, core_call, answer_number, deed_report, refused_outcome, unless, step_outcome, step_by, lock_move, moved_by, text_move, SameWords}
 use Rattle.algorithms.specs.FirstWords.{from_zeros}
-use Rattle.algorithms.specs.Worlds.{AlgorithmWorldState, access_at, after_step, process_after_start, entry_of, resting, advance_in_world as said_of, words_after_access, taken_by, with_process}
+use Rattle.algorithms.specs.Worlds.{AlgorithmWorldState, access_at, after_step, process_of, process_after_start, entry_of, resting, advance_in_world as said_of, words_after_access, taken_by, with_process}
 use Rattle.algorithms.specs.Steps.{step_before_access}
 use Rattle.algorithms.specs.declared.access.WordAccess.{WordAccess}
 use Rattle.algorithms.specs.declared.access.Advanced.{Advanced}
 use Rattle.algorithms.specs.declared.access.Taken.{Taken}
 use Rattle.algorithms.specs.declared.algorithm.Algorithm.{Algorithm}
 use Rattle.algorithms.specs.declared.algorithm.AlgorithmCall.{AlgorithmCall}
+use Rattle.algorithms.specs.declared.algorithm.Promises.{Promises}
 use Rattle.algorithms.specs.declared.constants.Constants.{Constants}
 use Rattle.algorithms.specs.declared.process.AlgorithmProcess.{AlgorithmProcess}
 use Rattle.algorithms.specs.declared.refusal.AlgorithmRefusal.{AlgorithmRefusal}
@@ -57,87 +58,8 @@ use Rattle.algorithm_lab.proofs.BakeryPlaces.{dead, Stands}
 use Rattle.algorithm_lab.proofs.BakerySteps.{address_of, stores_of, access_by, Follows, ValueFits, StepIf, steps_alike}
 use Rattle.algorithm_lab.proofs.BakeryWords.{AlikeWords, IsRowOf, reports, stores_alike, set_here, set_there, replicated}
 use Rattle.algorithm_lab.proofs.BakeryDeeds.{promised, OfStep, of_turn, hears, phase_kept, judge_at, deeds_said, step_judged}
-use Rattle.algorithm_lab.proofs.BakeryStarts.{by_call, phase_part, PhaseFits, IsRefused, StartIf, starts_alike}
-
--- ---- the lock's side
-
--- what the invariant of the lock knows of the value of a load
-value_fits : (limit n p : ℕ) (w : World) (place : Place) → Fits (w.words p) place → Bounded limit w → IfSome (access limit p place) (λ acc. ValueFits limit place (read w.words (word_of acc)))
-value_fits limit n p w (Reread call []) fits bounded = tt
-value_fits limit n p w (Reread call (c ∷ [])) fits bounded = tt
-value_fits limit n p w (Reread call (c ∷ k ∷ [])) fits bounded = (subst (λ x. x ≤ 1) fits.1 (bounded.small p).choosing, (bounded.small p).inside)
-value_fits limit n p w (Reread call (c ∷ k ∷ i ∷ seen)) fits bounded = tt
-value_fits limit n p w (Door (j ∷ js) m) fits bounded = (bounded.small j).number
-value_fits limit n p w (Door [] m) fits bounded = elim (cases_Bool (nat_lt m limit)) [ inl e ↦ rw e tt | inr e ↦ rw e tt ]
-value_fits limit n p w (Wait k [] None) fits bounded = tt
-value_fits limit n p w (Wait k (j ∷ js) None) fits bounded = tt
-value_fits limit n p w (Wait k unpassed (Some j)) fits bounded = tt
-value_fits limit n p w Rest fits bounded = tt
-value_fits limit n p w Dead fits bounded = tt
-value_fits limit n p w Opening fits bounded = tt
-value_fits limit n p w (Shutting call k) fits bounded = tt
-value_fits limit n p w Inside fits bounded = tt
-value_fits limit n p w Leaving fits bounded = tt
-value_fits limit n p w Withdrawing fits bounded = tt
-value_fits limit n p w (Unmarking call) fits bounded = tt
-
--- the word of an access is a lock word
-in_lock : (limit n p : ℕ) (place : Place) (t : AlgorithmProcess) → p < n → Stands n limit p place t → IfSome (access limit p place) (λ acc. InLock n (word_of acc))
-in_lock limit n p (Reread call []) t own stands = own
-in_lock limit n p (Reread call (c ∷ [])) t own stands = own
-in_lock limit n p (Reread call (c ∷ k ∷ [])) t own stands = own
-in_lock limit n p (Reread call (c ∷ k ∷ i ∷ seen)) t own stands = tt
-in_lock limit n p (Door (j ∷ js) m) t own stands = stands.2.0
-in_lock limit n p (Door [] m) t own stands = elim (cases_Bool (nat_lt m limit)) [ inl e ↦ rw e own | inr e ↦ rw e own ]
-in_lock limit n p (Wait k [] None) t own stands = own
-in_lock limit n p (Wait k (j ∷ js) None) t own stands = stands.2.0
-in_lock limit n p (Wait k unpassed (Some j)) t own stands = stands.2
-in_lock limit n p Rest t own stands = tt
-in_lock limit n p Dead t own stands = tt
-in_lock limit n p Opening t own stands = own
-in_lock limit n p (Shutting call k) t own stands = own
-in_lock limit n p Inside t own stands = tt
-in_lock limit n p Leaving t own stands = own
-in_lock limit n p Withdrawing t own stands = own
-in_lock limit n p (Unmarking call) t own stands = own
-
-dead_outside : (c k i : ℕ) → phase_at c k i true ≡ phases.Inside → ⊥
-dead_outside zero zero i e = cc
-dead_outside (suc c) zero i e = cc
-dead_outside zero (suc k) zero e = cc
-dead_outside (suc c) (suc k) zero e = cc
-dead_outside zero (suc k) (suc i) e = cc
-dead_outside (suc c) (suc k) (suc i) e = cc
-
-phase_fits : (place : Place) (x : Own) (phase : Phase) → Fits x place → phase ≡ lock_phase x place → PhaseFits place phase
-phase_fits Rest x phase fits e = λ is. let some = within_means x.choosing x.number x.inside false (sym e ∙ is) in omega (arith, some, fits.0)
-phase_fits Dead x phase fits e = λ is. dead_outside x.choosing x.number x.inside (sym e ∙ is)
-phase_fits Inside x phase fits e = e ∙ phase_within x.choosing x.number x.inside fits.1 fits.2
-phase_fits (Reread call seen) x phase fits e = tt
-phase_fits Opening x phase fits e = tt
-phase_fits (Door u m) x phase fits e = tt
-phase_fits (Shutting call k) x phase fits e = tt
-phase_fits (Wait k u l) x phase fits e = tt
-phase_fits Leaving x phase fits e = tt
-phase_fits Withdrawing x phase fits e = tt
-phase_fits (Unmarking call) x phase fits e = tt
-
--- a start that is not refused is allowed
-may_start : (call : CoreCall) (place : Place) → lock_refusal place call ≡ None → IsSome (lock_started place call)
-may_start cores.Lock Rest e = refl
-may_start cores.Lock Dead e = refl
-may_start cores.Recover Rest e = refl
-may_start cores.Recover Dead e = refl
-may_start cores.Unlock Inside e = refl
-may_start cores.Withdraw (Wait k u l) e = refl
-may_start _ _ e = cc
-
-some_is : {A : Type 0} (o : Option A) → IsSome o → (x : A) × (o ≡ Some x)
-some_is None h = absurd (cc)
-some_is (Some x) h = (x, refl)
-
-at_some : {A : Type 0} (o : Option A) (x : A) (P : A → Type 0) → o ≡ Some x → IfSome o P → P x
-at_some o x P e h = subst (λ r. IfSome r P) e h
+use Rattle.algorithm_lab.proofs.BakeryPlaceFits.{value_fits, in_lock, phase_fits, may_start, some_is, at_some}
+use Rattle.algorithm_lab.proofs.BakeryStarts.{by_call, phase_part, IsRefused, StartIf, starts_alike}
 
 -- ---- both sides
 
@@ -146,7 +68,7 @@ module _ (a : Algorithm) (b : IsBakery a) (n limit : ℕ) (most : n ≤ 64) (hig
   world rows ts = record { algorithm = a; procs = n; limit = limit; first_rows = None; words = rows; processes = ts }
 
   abbrev pub state : List (List ℕ) → List AlgorithmProcess → List Phase → MonitorState
-  state rows ts ps = record { world = world rows ts; phases = ps }
+  state rows ts ps = record { world = world rows ts; phases = ps; steps = [] }
 
   pub record HasProcess (p : ℕ) (place : Place) (ts : List AlgorithmProcess) : Type 0 where
     pub process : AlgorithmProcess
@@ -207,7 +129,7 @@ module _ (a : Algorithm) (b : IsBakery a) (n limit : ℕ) (most : n ≤ 64) (hig
     -- ---- starts
 
     abbrev start_by : ℕ → Option RunRefusal → Result AlgorithmProcess AlgorithmRefusal → Result MonitorState RunRefusal
-    start_by p r x = unless_heard r (then_in (λ w. record { world = w; phases = ps }) (x >>= (λ process. Ok (with_process (world rows ts) p process))))
+    start_by p r x = unless_heard r (then_in (λ w. record { world = w; phases = ps; steps = [] }) (x >>= (λ process. Ok (with_process (world rows ts) p process))))
 
     abbrev start_from : ℕ → AlgorithmCall → Option AlgorithmProcess → Result MonitorState RunRefusal
     start_from p call o =
@@ -281,10 +203,10 @@ module _ (a : Algorithm) (b : IsBakery a) (n limit : ℕ) (most : n ≤ 64) (hig
     -- ---- crashes
 
     abbrev crash_from : ℕ → Option AlgorithmProcess → Result EventPart RunRefusal
-    crash_from p o = then_in (λ w. part_of m p w (heard_of_crash a.promises p (phase_now p)) None) (ok_or o NoSuchProcess >>= (λ process. Ok (with_process (world rows ts) p dead)))
+    crash_from p o = then_in (λ w. part_of m p w (heard_of_crash a.promises p (phase_now p)) None 0) (ok_or o NoSuchProcess >>= (λ process. Ok (with_process (world rows ts) p dead)))
 
-    crash_there : (p : ℕ) (t : AlgorithmProcess) → slice_get ts p ≡ Some t → crash_on m p ≡ Ok (part_of m p (with_process (world rows ts) p dead) (heard_of_crash promised p (phase_now p)) None)
-    crash_there p t there = ap (crash_from p) there ∙ ap (λ x. Ok (part_of m p (with_process (world rows ts) p dead) (heard_of_crash x p (phase_now p)) None)) b.promises
+    crash_there : (p : ℕ) (t : AlgorithmProcess) → slice_get ts p ≡ Some t → crash_on m p ≡ Ok (part_of m p (with_process (world rows ts) p dead) (heard_of_crash promised p (phase_now p)) None 0)
+    crash_there p t there = ap (crash_from p) there ∙ ap (λ x. Ok (part_of m p (with_process (world rows ts) p dead) (heard_of_crash x p (phase_now p)) None 0)) b.promises
 
     crash_gone : (p : ℕ) → n ≤ p → crash_on m p ≡ Err (Refused NoSuchProcess)
     crash_gone p past = ap (crash_from p) (gone p past)
@@ -326,16 +248,27 @@ module _ (a : Algorithm) (b : IsBakery a) (n limit : ℕ) (most : n ≤ 64) (hig
 
     -- ---- steps
 
-    abbrev step_done : ℕ → Result Taken AlgorithmRefusal → Result EventPart RunRefusal
-    step_done p r =
-        then_in (λ (s : Advanced × AlgorithmWorldState). part_of m p s.1 (deeds_heard a.promises p (phase_now p) s.0.noted) s.0.answer)
+    -- the text bounds no own steps
+    no_excess : (p : ℕ) → excess_of m p ≡ None
+    no_excess p =
+        ap (λ o. excess o (counted_steps m p)) (no_bound a.promises (section_at a.entries (phase_of m p) (place_in (process_of m.world p))) (ap bounds_steps b.promises))
+
+    abbrev step_with : ℕ → Option BoundedSection → Result Taken AlgorithmRefusal → Result EventPart RunRefusal
+    step_with p over r =
+        then_in (λ (s : Advanced × AlgorithmWorldState). part_of m p s.1 (with_excess p over (deeds_heard a.promises p (phase_now p) s.0.noted)) s.0.answer 0)
         ((r >>= (λ t. Ok (t, after_step (world rows ts) p t))) >>= said_of)
+
+    abbrev step_done : ℕ → Result Taken AlgorithmRefusal → Result EventPart RunRefusal
+    step_done p r = step_with p None r
 
     abbrev step_from : ℕ → Option AlgorithmProcess → Result EventPart RunRefusal
     step_from p o = step_done p (ok_or o NoSuchProcess >>= (λ process. taken_by a (me p) rows process))
 
+    step_is : (p : ℕ) → step_on m p ≡ step_from p (slice_get ts p)
+    step_is p = ap (λ over. step_with p over (ok_or (slice_get ts p) NoSuchProcess >>= (λ process. taken_by a (me p) rows process))) (no_excess p)
+
     pub step_gone : (p : ℕ) → n ≤ p → step_on m p ≡ Err (Refused NoSuchProcess)
-    step_gone p past = ap (step_from p) (gone p past)
+    step_gone p past = step_is p ∙ ap (step_from p) (gone p past)
 
     words_alike : (p : ℕ) (acc : LockAccess) (v : ℕ) → KindFits acc → InLock n (word_of acc)
         → AlikeWords n (lock_stored w.words (Steps p (kind_of acc) (word_of acc) (carried_value acc v))) (words_after_access rows (address_of (word_of acc)) (stores_of acc))
@@ -388,7 +321,8 @@ module _ (a : Algorithm) (b : IsBakery a) (n limit : ℕ) (most : n ≤ 64) (hig
         let number : Option ℕ = option_map answer_number (answer place (kind_of acc) x) in
         let now : Heard = record { reports = deed_report deed; phase = lock.phase p } in
         let said : step_on m p ≡ Ok (reported p taken.moved.process (access_by acc) now number) =
-        ap (step_from p) there
+        step_is p
+        ∙ ap (step_from p) there
         ∙ ap (step_done p) s.1
         ∙ ap (λ y. Ok (reported p taken.moved.process y (deeds_heard a.promises p (phase_now p) taken.moved.noted) taken.moved.answer)) f.access
         ∙ ap (λ y. Ok (reported p taken.moved.process (access_by acc) y taken.moved.answer)) hear
@@ -418,7 +352,7 @@ module _ (a : Algorithm) (b : IsBakery a) (n limit : ℕ) (most : n ≤ 64) (hig
 
     step_by_access : (p : ℕ) (own : p < n) (t : AlgorithmProcess) (o : Option LockAccess) → slice_get ts p ≡ Some t → Stands n limit p (w.places p) t → access limit p (w.places p) ≡ o
         → StepIf a b n limit p own most high rows (w.places p) t o → StepOf p o
-    step_by_access p own t None there stands e step = ap (step_from p) there ∙ ap (λ r. step_done p (r >>= (λ at. access_at a at >>= (λ line. step_before_access a (me p) rows at line t.store)))) step
+    step_by_access p own t None there stands e step = step_is p ∙ ap (step_from p) there ∙ ap (λ r. step_done p (r >>= (λ at. access_at a at >>= (λ line. step_before_access a (me p) rows at line t.store)))) step
     step_by_access p own t (Some acc) there stands e step = moved_to p acc own t there stands e step
 
     -- the step of a process that is there
@@ -493,5 +427,11 @@ module _ (a : Algorithm) (b : IsBakery a) (n limit : ℕ) (most : n ≤ 64) (hig
     words = first_words;
   }
 
+  -- no own step is counted in a new monitor
+  pub first_is : first_monitor (from_zeros a) n limit ≡ state (replicate (length a.declarations.items) (replicate 64 0)) (replicate n resting) (replicate n phases.Out)
+  first_is =
+      ap (λ (promises : Promises). record { world = world (replicate (length a.declarations.items) (replicate 64 0)) (replicate n resting); phases = replicate n phases.Out; steps = first_steps promises n }) b.promises
+
   pub same_runs : (moves : List ScheduleMove) → SameRuns at_rest (first_monitor (from_zeros a) n limit) moves
-  same_runs moves = runs_match moves at_rest nobody (replicate (length a.declarations.items) (replicate 64 0)) (replicate n resting) (replicate n phases.Out) first_alike
+  same_runs moves =
+      subst (λ m. SameRuns at_rest m moves) (sym first_is) (runs_match moves at_rest nobody (replicate (length a.declarations.items) (replicate 64 0)) (replicate n resting) (replicate n phases.Out) first_alike)

@@ -1,7 +1,9 @@
+pub mod Sections
 pub mod Runs
 pub mod HeardDeeds
 pub mod Replays
 pub mod Restarts
+pub mod NoExcess
 pub mod BakeryComparisons
 pub mod BakeryLines
 pub mod BakeryLocalRuns
@@ -12,6 +14,7 @@ pub mod BakeryWords
 pub mod BakeryWordLines
 pub mod BakeryDeeds
 pub mod BakeryStarts
+pub mod BakeryPlaceFits
 pub mod BakeryWorlds
 pub mod BakerySizes
 pub mod BakeryJudged

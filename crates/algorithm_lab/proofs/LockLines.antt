@@ -48,7 +48,7 @@ use Rattle.algorithm_lab.specs.declared.run_report.TextReport.TheVariants.{Did, 
 use Rattle.algorithm_lab.proofs.Runs.{part_run, steps, after_step, line_of_start, line_of_crash, first_step}
 use Rattle.algorithm_lab.proofs.LockGoesOn.{GoesOn, goes_on}
 use Rattle.algorithm_lab.proofs.BakeryWordLines.{end_lines}
-use Rattle.algorithm_lab.proofs.BakeryWorlds.{state, Alike, Matches, StepOf, start_matches, step_of, step_gone, crash_matches, same_words, first_alike}
+use Rattle.algorithm_lab.proofs.BakeryWorlds.{state, Alike, Matches, StepOf, start_matches, step_of, step_gone, crash_matches, same_words, first_alike, first_is}
 
 -- ---- reports
 
@@ -373,7 +373,7 @@ module _ (a : Algorithm) (b : IsBakery a) (n limit : ℕ) (most : n ≤ 64) (hig
 
   pub lines_same : (first : ℕ) (all : List Line) → All IsOfLock all → SameRun a n (run_on first (first_monitor (from_zeros a) n limit) all) (lock_run_on (lock_behaviour n limit) first at_rest all)
   lines_same first all each =
-      let both = run_same first all at_rest (first_monitor (from_zeros a) n limit) each (record { lock = nobody; rows = _; processes = _; now = _; is = refl; alike = first_alike a b n limit most high }) in
+      let both = run_same first all at_rest (first_monitor (from_zeros a) n limit) each (record { lock = nobody; rows = _; processes = _; now = _; is = first_is a b n limit most high; alike = first_alike a b n limit most high }) in
       let left : World = (lock_run_on (lock_behaviour n limit) first at_rest all).left in
       let end = both.beside in
       record {
@@ -381,7 +381,7 @@ module _ (a : Algorithm) (b : IsBakery a) (n limit : ℕ) (most : n ≤ 64) (hig
         report = both.reports.text;
         refused = both.refused;
         words = subst (λ m. SameWords n left m) (sym end.is) (same_words a b n limit most high left end.lock end.rows end.processes end.now end.alike);
-        last_lines = ap (λ (m : MonitorState). words_text n m.world.words 0 a.declarations.items) end.is ∙ end_lines a b n left.words end.rows end.alike.words;
+        last_lines = ap (λ (m : MonitorState). words_text n m.world.limit m.world.words 0 a.declarations.items) end.is ∙ end_lines a b n limit left.words end.rows end.alike.words;
       }
 
 -- an image has the words of each process

@@ -1,5 +1,5 @@
 -- Monitors that begin anew.
-use Rattle.std.proofs.Common.{◌≡◌, ℕ, List, length, replicate, Option, Some, None, Result, Ok, Err, refl, ◌∙◌}
+use Rattle.std.proofs.Common.{◌≡◌, ℕ, Bool, true, false, if◌then◌else◌, List, [], length, replicate, Option, Some, None, Result, Ok, Err, refl, ap, ◌∙◌}
 use Rattle.std.specs.Prelude.{slice_set}
 use Rattle.std.proofs.lemmas.List.{length-replicate, length-set}
 use Rattle.rmecore.specs.declared.phase.Phase.{Phase}
@@ -17,12 +17,20 @@ use Rattle.algorithms.specs.declared.first_values.InitializedAlgorithm.{Initiali
 use Rattle.algorithms.specs.declared.process.AlgorithmPlace.TheVariants.{Dead}
 use Rattle.algorithms.specs.declared.process.AlgorithmProcess.{AlgorithmProcess}
 use Rattle.algorithms.specs.declared.refusal.AlgorithmRefusal.{AlgorithmRefusal}
-use Rattle.algorithm_lab.specs.Heard.{deeds_heard, heard_of_crash}
-use Rattle.algorithm_lab.specs.Monitors.{MonitorState, EventPart, first_monitor, left_by, monitor_at_beginning, then_in, part_of, part_of_start, phase_of, start_refusal, unless, start_on, step_on, crash_on}
+use Rattle.algorithm_lab.specs.Heard.{heard_of_crash}
+use Rattle.algorithm_lab.specs.Sections.{bounds_steps, steps_after}
+use Rattle.algorithm_lab.specs.Monitors.{MonitorState, EventPart, first_monitor, left_by, monitor_at_beginning, then_in, part_of, part_of_start, part_of_step, phase_of, counted_steps, heard_of_step, section_in, step_bound, start_refusal, unless, start_on, step_on, crash_on}
 use Rattle.algorithm_lab.specs.Runs.{call_of, event_reports, line_on, monitor_transitions, run_on, start_by}
 use Rattle.algorithm_lab.specs.declared.run_report.TextReport.{TextReport}
 use Rattle.algorithm_lab.proofs.Runs.{so_of_line, so_of_run}
 use Rattle.algorithm_lab.specs.declared.run_refusal.RunRefusal.{RunRefusal}
+
+abbrev steps_if : Bool → ℕ → List ℕ
+steps_if b procs = if b then replicate procs 0 else []
+
+steps_restarted : (b : Bool) (procs : ℕ) → replicate (length (steps_if b procs)) 0 ≡ steps_if b procs
+steps_restarted true procs = ap (λ n. replicate n 0) (length-replicate {A = ℕ} procs 0)
+steps_restarted false procs = refl
 
 pub first_restarted : (a : InitializedAlgorithm) (procs limit : ℕ) → monitor_at_beginning (first_monitor a procs limit) ≡ first_monitor a procs limit
 first_restarted a procs limit =
@@ -36,24 +44,26 @@ first_restarted a procs limit =
         processes = replicate (length-replicate procs resting i) resting;
       };
       phases = replicate (length-replicate procs Out i) Out;
+      steps = steps_restarted (bounds_steps a.algorithm.promises) procs i;
     })
 
--- a monitor with other words, processes and phases, as many of each
-abbrev with_these : MonitorState → List (List ℕ) → List AlgorithmProcess → List Phase → MonitorState
-with_these m words processes phases = record { world = record { algorithm = m.world.algorithm; procs = m.world.procs; limit = m.world.limit; first_rows = m.world.first_rows; words = words; processes = processes }; phases = phases }
+-- a monitor with other words, processes, phases and own steps, as many of each
+abbrev with_these : MonitorState → List (List ℕ) → List AlgorithmProcess → List Phase → List ℕ → MonitorState
+with_these m words processes phases steps = record { world = record { algorithm = m.world.algorithm; procs = m.world.procs; limit = m.world.limit; first_rows = m.world.first_rows; words = words; processes = processes }; phases = phases; steps = steps }
 
-restarts_with : (m : MonitorState) (words : List (List ℕ)) (processes : List AlgorithmProcess) (phases : List Phase) → length words ≡ length m.world.words → length processes ≡ length m.world.processes → length phases ≡ length m.phases
-    → monitor_at_beginning (with_these m words processes phases) ≡ monitor_at_beginning m
-restarts_with m words processes phases w q f =
+restarts_with : (m : MonitorState) (words : List (List ℕ)) (processes : List AlgorithmProcess) (phases : List Phase) (steps : List ℕ) → length words ≡ length m.world.words → length processes ≡ length m.world.processes → length phases ≡ length m.phases
+    → length steps ≡ length m.steps → monitor_at_beginning (with_these m words processes phases steps) ≡ monitor_at_beginning m
+restarts_with m words processes phases steps w q f g =
     (λ i. record {
       world = record { algorithm = m.world.algorithm; procs = m.world.procs; limit = m.world.limit; first_rows = m.world.first_rows; words = rows_at_beginning m.world.first_rows (w i); processes = replicate (q i) resting };
       phases = replicate (f i) Out;
+      steps = replicate (g i) 0;
     })
 
 pub restarted_twice : (m : MonitorState) → monitor_at_beginning (monitor_at_beginning m) ≡ monitor_at_beginning m
 restarted_twice m =
-    restarts_with m (rows_at_beginning m.world.first_rows (length m.world.words)) (replicate (length m.world.processes) resting) (replicate (length m.phases) Out)
-    (rows_length m.world.first_rows (length m.world.words)) (length-replicate (length m.world.processes) resting) (length-replicate (length m.phases) Out)
+    restarts_with m (rows_at_beginning m.world.first_rows (length m.world.words)) (replicate (length m.world.processes) resting) (replicate (length m.phases) Out) (replicate (length m.steps) 0)
+    (rows_length m.world.first_rows (length m.world.words)) (length-replicate (length m.world.processes) resting) (length-replicate (length m.phases) Out) (length-replicate (length m.steps) 0)
 
 -- ---- starts, steps and crashes
 
@@ -68,35 +78,35 @@ unless_leaves m (Some e) r leaves = refl
 start_leaves : (m : MonitorState) (p : ℕ) (call : AlgorithmCall) → LeavesPart m (part_of_start (start_on m p call))
 start_leaves m p call = unless_leaves m (start_refusal m p call) _ (by (process_started m.world p call))
   where
-    by : (r : Result AlgorithmProcess AlgorithmRefusal) → LeavesPart m (part_of_start (then_in (λ w. record { world = w; phases = m.phases }) (r >>= λ process. Ok (with_process m.world p process))))
-    by (Ok process) = restarts_with m m.world.words (slice_set m.world.processes p process) m.phases refl (length-set m.world.processes p process) refl
+    by : (r : Result AlgorithmProcess AlgorithmRefusal) → LeavesPart m (part_of_start (then_in (λ w. record { world = w; phases = m.phases; steps = m.steps }) (r >>= λ process. Ok (with_process m.world p process))))
+    by (Ok process) = restarts_with m m.world.words (slice_set m.world.processes p process) m.phases m.steps refl (length-set m.world.processes p process) refl refl
     by (Err e) = refl
 
-step_leaves : (m : MonitorState) (p : ℕ) → LeavesPart m (step_on m p)
+pub step_leaves : (m : MonitorState) (p : ℕ) → LeavesPart m (step_on m p)
 step_leaves m p = by (step_of_process m.world p)
   where
     by : (r : Result Taken AlgorithmRefusal)
-        → LeavesPart m (then_in (λ s. part_of m p s.1 (deeds_heard m.world.algorithm.promises p (phase_of m p) s.0.noted) s.0.answer) ((r >>= λ t. Ok (t, world_after_step m.world p t)) >>= advance_in_world))
+        → LeavesPart m (then_in (part_of_step m p) ((r >>= λ t. Ok (t, world_after_step m.world p t)) >>= advance_in_world))
     by (Ok t) =
-        let after : List Phase = slice_set m.phases p (deeds_heard m.world.algorithm.promises p (phase_of m p) (advance_of t).noted).phase in
-        restarts_with m (words_after_access m.world.words t.access.address t.access.stores) (slice_set m.world.processes p t.moved.process) after
-        (stored_many m.world.words t.access.address t.access.stores) (length-set m.world.processes p t.moved.process)
-        (length-set m.phases p (deeds_heard m.world.algorithm.promises p (phase_of m p) (advance_of t).noted).phase)
+        let phase : Phase = (heard_of_step m p (advance_of t)).phase in
+        let steps : ℕ = steps_after (step_bound m p) (counted_steps m p) (section_in (world_after_step m.world p t) phase p) in
+        restarts_with m (words_after_access m.world.words t.access.address t.access.stores) (slice_set m.world.processes p t.moved.process) (slice_set m.phases p phase) (slice_set m.steps p steps)
+        (stored_many m.world.words t.access.address t.access.stores) (length-set m.world.processes p t.moved.process) (length-set m.phases p phase) (length-set m.steps p steps)
     by (Err e) = refl
 
-crash_leaves : (m : MonitorState) (p : ℕ) → LeavesPart m (crash_on m p)
+pub crash_leaves : (m : MonitorState) (p : ℕ) → LeavesPart m (crash_on m p)
 crash_leaves m p = by (process_of m.world p)
   where
     by : (r : Result AlgorithmProcess AlgorithmRefusal)
-        → LeavesPart m (then_in (λ w. part_of m p w (heard_of_crash m.world.algorithm.promises p (phase_of m p)) None) (r >>= λ process. Ok (with_process m.world p (record { place = Dead; store = no_names }))))
+        → LeavesPart m (then_in (λ w. part_of m p w (heard_of_crash m.world.algorithm.promises p (phase_of m p)) None 0) (r >>= λ process. Ok (with_process m.world p (record { place = Dead; store = no_names }))))
     by (Ok process) =
-        restarts_with m m.world.words (slice_set m.world.processes p (record { place = Dead; store = no_names })) (slice_set m.phases p (heard_of_crash m.world.algorithm.promises p (phase_of m p)).phase)
-        refl (length-set m.world.processes p (record { place = Dead; store = no_names })) (length-set m.phases p (heard_of_crash m.world.algorithm.promises p (phase_of m p)).phase)
+        restarts_with m m.world.words (slice_set m.world.processes p (record { place = Dead; store = no_names })) (slice_set m.phases p (heard_of_crash m.world.algorithm.promises p (phase_of m p)).phase) (slice_set m.steps p 0)
+        refl (length-set m.world.processes p (record { place = Dead; store = no_names })) (length-set m.phases p (heard_of_crash m.world.algorithm.promises p (phase_of m p)).phase) (length-set m.steps p 0)
     by (Err e) = refl
 
 -- ---- lines
 
-start_by_leaves : (m : MonitorState) (p : ℕ) (o : Option AlgorithmCall) → LeavesPart m (part_of_start (start_by m p o))
+pub start_by_leaves : (m : MonitorState) (p : ℕ) (o : Option AlgorithmCall) → LeavesPart m (part_of_start (start_by m p o))
 start_by_leaves m p (Some call) = start_leaves m p call
 start_by_leaves m p None = refl
 

@@ -19,20 +19,21 @@ use Rattle.schedule.specs.Transitions.{RunEvent, StepsFrom, Took, Fell, Transiti
 use Rattle.algorithms.specs.Worlds.{AlgorithmWorldState, advance, crash}
 use Rattle.algorithms.specs.declared.access.Advanced.{Advanced}
 use Rattle.algorithms.specs.declared.refusal.AlgorithmRefusal.{AlgorithmRefusal}
-use Rattle.algorithm_lab.specs.Heard.{deeds_heard, heard_of_crash}
-use Rattle.algorithm_lab.specs.Monitors.{IsRefusal, IsReportedPart, MonitorState, EventPart, crash_on, left_by, part_of, part_of_start, phase_of, refusal_by, reports_by, step_on, then_in}
+use Rattle.algorithm_lab.specs.Heard.{heard_of_crash}
+use Rattle.algorithm_lab.specs.Monitors.{IsRefusal, IsReportedPart, MonitorState, EventPart, crash_on, left_by, part_of, part_of_start, part_of_step, phase_of, refusal_by, reports_by, step_on, then_in}
 use Rattle.algorithm_lab.specs.Runs.{AlgorithmRun, AddsRun, call_of, deeds_of, event_reports, line_on, monitor_transitions, report_effects, said_by, start_by, start_part}
 use Rattle.algorithm_lab.specs.declared.monitor_event.MonitorCrash.{MonitorCrash}
 use Rattle.algorithm_lab.specs.declared.monitor_event.MonitorStep.{MonitorStep}
 use Rattle.algorithm_lab.specs.declared.run_refusal.RunRefusal.{RunRefusal}
 use Rattle.algorithm_lab.specs.declared.run_refusal.RunRefusal.TheVariants.{OutOfMemory}
 use Rattle.algorithm_lab.specs.declared.run_report.TextReport.{TextReport}
-use Rattle.algorithm_lab.specs.declared.run_report.TextReport.TheVariants.{Did, Answered}
+use Rattle.algorithm_lab.specs.declared.run_report.TextReport.TheVariants.{Did, Answered, Exceeded}
 
 pub deeds_append : (reports more : List TextReport) → deeds_of (reports ++ more) ≡ deeds_of reports ++ deeds_of more
 deeds_append [] more = refl
 deeds_append (Did outer ∷ reports) more = ap (λ ds. Outer outer ∷ ds) (deeds_append reports more)
 deeds_append (Answered p answer ∷ reports) more = deeds_append reports more
+deeds_append (Exceeded p section ∷ reports) more = deeds_append reports more
 
 -- what a start, a step or a crash comes to, as a run
 abbrev pub part_run : MonitorState → Result EventPart RunRefusal → AlgorithmRun RunRefusal
@@ -56,7 +57,7 @@ line_of_start m p call = by (start_by m p (call_of call))
 
 -- a crash with this outcome in the world
 abbrev crash_part : MonitorState → ℕ → Result AlgorithmWorldState AlgorithmRefusal → Result EventPart RunRefusal
-crash_part m p r = then_in (λ w. part_of m p w (heard_of_crash m.world.algorithm.promises p (phase_of m p)) None) r
+crash_part m p r = then_in (λ w. part_of m p w (heard_of_crash m.world.algorithm.promises p (phase_of m p)) None 0) r
 
 pub line_of_crash : (m : MonitorState) (p : ℕ) → line_on m (Crash p) ≡ part_run m (crash_on m p)
 line_of_crash m p = by (crash m.world p)
@@ -73,7 +74,7 @@ first_step p n m = by (advance m.world p) refl
     by (Ok s) is =
         elim (cases_Bool (is_some s.0.answer)) [
           | inl ends ↦
-              let part = part_of m p s.1 (deeds_heard m.world.algorithm.promises p (phase_of m p) s.0.noted) s.0.answer in
+              let part = part_of_step m p s in
               rw (is, ends) (ap (λ (ts : List TextReport). record { reports = ts; left = part.left; refused = None }) (append-nil part.reports))
           | inr goes ↦ rw (is, goes) refl
         ]
@@ -102,7 +103,7 @@ pub step_appended : (m left : MonitorState) (p : ℕ) (step : MonitorStep) (befo
 step_appended m left p step before now taken wrote = by (advance m.world p) taken.0 taken.1 taken.2
   where
     part : Result (Advanced × AlgorithmWorldState) AlgorithmRefusal → Result EventPart RunRefusal
-    part r = then_in (λ s. part_of m p s.1 (deeds_heard m.world.algorithm.promises p (phase_of m p) s.0.noted) s.0.answer) r
+    part r = then_in (part_of_step m p) r
 
     by : (r : Result (Advanced × AlgorithmWorldState) AlgorithmRefusal) → refusal_by (part r) ≡ None → step ≡ said_by m p r → left ≡ left_by m (part r) → IsReportedPart (part r) before now left
     by (Ok s) none is leaves = (wrote ∙ ap (λ (x : MonitorStep). before ++ event_reports (Took p x)) is, leaves)

@@ -1,8 +1,10 @@
 -- The recoverable Bakery as lines: what the text examples/algorithms/bakery.lock spells.
-use Rattle.std.specs.Prelude.{◌≡◌, ℕ, Bool, true, false, List, [], ◌∷◌, map, codes, string_bytes, Option, Some, Box}
+use Rattle.std.specs.Prelude.{◌≡◌, ℕ, true, false, List, [], ◌∷◌, map, codes, string_bytes, Option, Some, Box, None}
 use Rattle.std.specs.declared.alloc.Global.{Global}
 use Rattle.algorithms.specs.declared.algorithm.Algorithm.{Algorithm}
 use Rattle.algorithms.specs.declared.algorithm.Declaration.{Declaration}
+use Rattle.algorithms.specs.declared.algorithm.Extent.{Extent}
+use Rattle.algorithms.specs.declared.algorithm.Extent.TheVariants.{Each}
 use Rattle.algorithms.specs.declared.condition.Comparison.TheVariants.{Equal, Less, Greater}
 use Rattle.algorithms.specs.declared.condition.Condition.{Condition, Compare, ComparePairs, And', Or'}
 use Rattle.algorithms.specs.declared.expression.Expression.{Expression, Number, Private, Me, Limit, Joined'}
@@ -115,8 +117,8 @@ lines b r =
 abbrev pub name_of : Declaration → List ℕ
 name_of d = string_bytes d.name
 
-abbrev pub each_of : Declaration → Bool
-each_of d = d.each
+abbrev pub extent_of : Declaration → Extent
+extent_of d = d.extent
 
 abbrev pub bound_of : Declaration → Option Expression
 bound_of d = d.bound
@@ -146,9 +148,9 @@ pub record IsBakery (a : Algorithm) : Type 0 where
   pub name : string_bytes a.name ≡ codes "bakery"
   pub least : a.least ≡ 1
   pub most : a.most ≡ 64
-  pub promises : a.promises ≡ record { reentry = true; order = true }
+  pub promises : a.promises ≡ record { reentry = true; order = true; exit = None; recovery = None; doorway = None }
   pub declared : map name_of a.declarations.items ≡ codes "choosing" ∷ codes "number" ∷ codes "inside" ∷ []
-  pub each : map each_of a.declarations.items ≡ true ∷ true ∷ true ∷ []
+  pub extents : map extent_of a.declarations.items ≡ Each ∷ Each ∷ Each ∷ []
   pub bounds : map bound_of a.declarations.items ≡ Some (Number 1) ∷ Some Limit ∷ Some (Number 1) ∷ []
   pub names : map string_bytes a.names.items ≡ codes "c" ∷ codes "k" ∷ codes "i" ∷ codes "m" ∷ codes "j" ∷ codes "v" ∷ []
   pub lasting : a.lasting ≡ 0

@@ -1,4 +1,5 @@
 pub mod Refusals
+pub mod Sections
 pub mod Heard
 pub mod Monitors
 pub mod Runs

@@ -34,7 +34,7 @@ use Rattle.algorithm_lab.specs.Reports.{reports_text, words_text}
 use Rattle.algorithm_lab.specs.Runs.{AlgorithmRun, call_of}
 use Rattle.algorithm_lab.specs.declared.run_refusal.RunRefusal.{RunRefusal}
 use Rattle.algorithm_lab.specs.declared.run_report.TextReport.{TextReport}
-use Rattle.algorithm_lab.specs.declared.run_report.TextReport.TheVariants.{Did, Answered}
+use Rattle.algorithm_lab.specs.declared.run_report.TextReport.TheVariants.{Did, Answered, Exceeded}
 
 -- a line of the lock alone: a start of one of its calls, one step or more, or a crash
 abbrev pub IsOfLock : Line → Type 0
@@ -68,10 +68,11 @@ dones =
     ∷ Withdrawn
     ∷ []
 
--- what the lock reports where the text reports this
+-- what the lock reports where the text reports this. The text bounds no own steps, so that it reports no excess
 abbrev pub lock_reported : TextReport → LockReport
 lock_reported (Did outer) = LockDid (Outer outer)
 lock_reported (Answered p number) = LockAnswered p (answer_of (slice_index_or dones number Withdrawn))
+lock_reported (Exceeded p section) = LockAnswered p (answer_of Withdrawn)
 
 -- ---- the lock as a machine that plays schedules
 
@@ -160,4 +161,4 @@ pub record SameRun (a : Algorithm) (n : ℕ) (text : AlgorithmRun (ℕ × RunRef
   pub report : reports_text a text.reports ≡ lock_text lock.reports
   pub refused : option_map (refusal_with_number number_of_run) text.refused ≡ option_map (refusal_with_number number_of) lock.refused
   pub words : SameWords n lock.left text.left
-  pub last_lines : words_text n text.left.world.words 0 a.declarations.items ≡ words_lines n lock.left.words
+  pub last_lines : words_text n text.left.world.limit text.left.world.words 0 a.declarations.items ≡ words_lines n lock.left.words

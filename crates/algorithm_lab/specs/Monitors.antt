@@ -1,35 +1,69 @@
--- A world of an algorithm with a monitor: the phase of each process by the deeds of it that are heard.
-use Rattle.std.specs.Prelude.{◌≡◌, ℕ, Bool, true, false, if◌then◌else◌, List, [], ◌∷◌, ◌++◌, length, replicate, slice_index_or, slice_set, Option, Some, None, is_some, Result, Ok, Err}
+-- A world of an algorithm with a monitor: the phase of each process by the deeds of it that are heard, and its own steps in the
+-- section that it is in, where the text bounds them.
+use Rattle.std.specs.Prelude.{◌≡◌, ℕ, Bool, true, false, if◌then◌else◌, List, [], ◌∷◌, ◌++◌, length, replicate, slice_index, slice_index_or, slice_set, Option, Some, None, is_some, Result, Ok, Err}
 use Rattle.rmecore.specs.declared.phase.Phase.{Phase}
 use Rattle.rmecore.specs.declared.phase.Phase.TheVariants.{Out, Inside}
 use Rattle.algorithms.specs.Worlds.{AlgorithmWorldState, first_world, process_of, entry_of, start, advance, crash, world_at_beginning as world_restarted}
+use Rattle.algorithms.specs.declared.access.Advanced.{Advanced}
 use Rattle.algorithms.specs.declared.algorithm.AlgorithmCall.{AlgorithmCall}
 use Rattle.algorithms.specs.declared.algorithm.AlgorithmCall.TheVariants.{Lock, Unlock, Recover}
+use Rattle.algorithms.specs.declared.algorithm.Promises.{Promises}
 use Rattle.algorithms.specs.declared.first_values.InitializedAlgorithm.{InitializedAlgorithm}
 use Rattle.algorithms.specs.declared.process.AlgorithmPlace.{AlgorithmPlace}
 use Rattle.algorithms.specs.declared.process.AlgorithmPlace.TheVariants.{Rest, Dead, At}
 use Rattle.algorithms.specs.declared.process.AlgorithmProcess.{AlgorithmProcess}
 use Rattle.algorithms.specs.declared.refusal.AlgorithmRefusal.{AlgorithmRefusal}
 use Rattle.algorithm_lab.specs.Heard.{Heard, deeds_heard, heard_of_crash}
+use Rattle.algorithm_lab.specs.Sections.{bound_if, excess, bounds_steps, section_at, steps_after}
 use Rattle.algorithm_lab.specs.declared.run_refusal.RunRefusal.{RunRefusal}
 use Rattle.algorithm_lab.specs.declared.run_refusal.RunRefusal.TheVariants.{Refused, NotOwner, AlreadyIn, OutOfMemory}
 use Rattle.algorithm_lab.specs.declared.run_report.TextReport.{TextReport}
-use Rattle.algorithm_lab.specs.declared.run_report.TextReport.TheVariants.{Answered}
+use Rattle.algorithm_lab.specs.declared.run_report.TextReport.TheVariants.{Answered, Exceeded}
+use Rattle.algorithm_lab.specs.declared.section.BoundedSection.{BoundedSection}
+use Rattle.algorithm_lab.specs.declared.section.StepBound.{StepBound}
 
 pub record MonitorState : Type 0 where
   pub world : AlgorithmWorldState
   pub phases : List Phase
+  pub steps : List ℕ
+
+-- no own step is counted at the beginning. Where the text bounds none, none ever is
+abbrev pub first_steps : Promises → ℕ → List ℕ
+first_steps promises procs = if bounds_steps promises then replicate procs 0 else []
 
 -- a new world, in which all processes are out
 abbrev pub first_monitor : InitializedAlgorithm → ℕ → ℕ → MonitorState
-first_monitor a procs limit = record { world = first_world a procs limit; phases = replicate procs Out }
+first_monitor a procs limit =
+    record { world = first_world a procs limit; phases = replicate procs Out; steps = first_steps a.algorithm.promises procs }
 
 -- the same world and its monitor at their beginning
 abbrev pub monitor_at_beginning : MonitorState → MonitorState
-monitor_at_beginning m = record { world = world_restarted m.world; phases = replicate (length m.phases) Out }
+monitor_at_beginning m =
+    record { world = world_restarted m.world; phases = replicate (length m.phases) Out; steps = replicate (length m.steps) 0 }
 
 abbrev pub phase_of : MonitorState → ℕ → Phase
 phase_of m p = slice_index_or m.phases p Out
+
+-- the own steps of p that are counted
+abbrev pub counted_steps : MonitorState → ℕ → ℕ
+counted_steps m p = slice_index m.steps p
+
+-- the place of a process; one that is not there has none
+abbrev pub place_in : Result AlgorithmProcess AlgorithmRefusal → AlgorithmPlace
+place_in (Ok process) = process.place
+place_in (Err e) = Rest
+
+-- the section that p is in, in this phase
+abbrev pub section_in : AlgorithmWorldState → Phase → ℕ → Option BoundedSection
+section_in w phase p = section_at w.algorithm.entries phase (place_in (process_of w p))
+
+-- the bound on the own steps of p in the section that it is in, where the text promises one
+abbrev pub step_bound : MonitorState → ℕ → Option StepBound
+step_bound m p = bound_if m.world.algorithm.promises (section_in m.world (phase_of m p) p)
+
+-- the section in which the next step of p is the first above the bound
+abbrev pub excess_of : MonitorState → ℕ → Option BoundedSection
+excess_of m p = excess (step_bound m p) (counted_steps m p)
 
 -- what an event reports, whether a call ends with it, and what it leaves
 pub record EventPart : Type 0 where
@@ -75,7 +109,7 @@ unless (Some e) r = Err e
 
 -- a start
 abbrev pub start_on : MonitorState → ℕ → AlgorithmCall → Result MonitorState RunRefusal
-start_on m p call = unless (start_refusal m p call) (then_in (λ w. record { world = w; phases = m.phases }) (start m.world p call))
+start_on m p call = unless (start_refusal m p call) (then_in (λ w. record { world = w; phases = m.phases; steps = m.steps }) (start m.world p call))
 
 -- ---- steps and crashes
 
@@ -84,23 +118,42 @@ abbrev pub answer_reports : ℕ → Option ℕ → List TextReport
 answer_reports p None = []
 answer_reports p (Some answer) = Answered p answer ∷ []
 
--- an event of p that is heard so
-abbrev pub part_of : MonitorState → ℕ → AlgorithmWorldState → Heard → Option ℕ → EventPart
-part_of m p world h answer =
+-- the report that a step of p is the first above the bound of a section, if it is
+abbrev pub excess_reports : ℕ → Option BoundedSection → List TextReport
+excess_reports p None = []
+excess_reports p (Some section) = Exceeded p section ∷ []
+
+-- what is heard, after the report of an excess
+abbrev pub with_excess : ℕ → Option BoundedSection → Heard → Heard
+with_excess p excess h = record { reports = excess_reports p excess ++ h.reports; phase = h.phase }
+
+-- an event of p that is heard so, and leaves it with this number of own steps
+abbrev pub part_of : MonitorState → ℕ → AlgorithmWorldState → Heard → Option ℕ → ℕ → EventPart
+part_of m p world h answer steps =
     record {
       reports = h.reports ++ answer_reports p answer;
       ended = is_some answer;
-      left = record { world = world; phases = slice_set m.phases p h.phase };
+      left = record { world = world; phases = slice_set m.phases p h.phase; steps = slice_set m.steps p steps };
     }
+
+-- what is heard of a step of p
+abbrev pub heard_of_step : MonitorState → ℕ → Advanced → Heard
+heard_of_step m p advanced =
+    with_excess p (excess_of m p) (deeds_heard m.world.algorithm.promises p (phase_of m p) advanced.noted)
+
+-- what a step of p reports and leaves
+abbrev pub part_of_step : MonitorState → ℕ → Advanced × AlgorithmWorldState → EventPart
+part_of_step m p s =
+    let h = heard_of_step m p s.0 in
+    part_of m p s.1 h s.0.answer (steps_after (step_bound m p) (counted_steps m p) (section_in s.1 h.phase p))
 
 -- a step reports what is heard of it, and then the answer of its call
 abbrev pub step_on : MonitorState → ℕ → Result EventPart RunRefusal
-step_on m p =
-    then_in (λ s. part_of m p s.1 (deeds_heard m.world.algorithm.promises p (phase_of m p) s.0.noted) s.0.answer) (advance m.world p)
+step_on m p = then_in (part_of_step m p) (advance m.world p)
 
--- a crash
+-- a crash. The section that the process was in is given up
 abbrev pub crash_on : MonitorState → ℕ → Result EventPart RunRefusal
-crash_on m p = then_in (λ w. part_of m p w (heard_of_crash m.world.algorithm.promises p (phase_of m p)) None) (crash m.world p)
+crash_on m p = then_in (λ w. part_of m p w (heard_of_crash m.world.algorithm.promises p (phase_of m p)) None 0) (crash m.world p)
 
 -- ---- what comes of a start, a step or a crash
 

@@ -19,20 +19,21 @@ use Rattle.algorithms.specs.declared.refusal.AlgorithmRefusal.{AlgorithmRefusal}
 use Rattle.algorithms.specs.declared.refusal.AlgorithmRefusal.TheVariants.{NoSuchCall}
 use Rattle.redomail.specs.declared.deed.Deed.{Deed}
 use Rattle.redomail.specs.declared.deed.Deed.TheVariants.{Outer}
-use Rattle.algorithm_lab.specs.Heard.{deeds_heard, heard_of_crash}
+use Rattle.algorithm_lab.specs.Heard.{Heard, deeds_heard, heard_of_crash}
 use Rattle.algorithm_lab.specs.declared.monitor_event.MonitorCrash.{MonitorCrash}
 use Rattle.algorithm_lab.specs.declared.monitor_event.MonitorStep.{MonitorStep}
 use Rattle.algorithm_lab.specs.declared.run_refusal.RunRefusal.{RunRefusal}
 use Rattle.algorithm_lab.specs.declared.run_refusal.RunRefusal.TheVariants.{Refused, OutOfMemory}
 use Rattle.algorithm_lab.specs.declared.run_report.TextReport.{TextReport}
-use Rattle.algorithm_lab.specs.declared.run_report.TextReport.TheVariants.{Did, Answered}
-use Rattle.algorithm_lab.specs.Monitors.{MonitorState, EventPart, answer_reports, crash_on, left_by, part_of_start, phase_of, refusal_by, start_on, step_on}
+use Rattle.algorithm_lab.specs.declared.run_report.TextReport.TheVariants.{Did, Answered, Exceeded}
+use Rattle.algorithm_lab.specs.Monitors.{MonitorState, EventPart, answer_reports, crash_on, excess_of, left_by, part_of_start, phase_of, refusal_by, start_on, step_on, with_excess}
 
 -- the deeds in what is reported
 abbrev pub deeds_of : List TextReport → List Deed
 deeds_of [] = []
 deeds_of (Did outer ∷ reports) = Outer outer ∷ deeds_of reports
 deeds_of (Answered p answer ∷ reports) = deeds_of reports
+deeds_of (Exceeded p section ∷ reports) = deeds_of reports
 
 -- ---- a monitor as a machine on which a schedule is played
 
@@ -59,10 +60,10 @@ start_part m p call = part_of_start (start_by m p (call_of call))
 
 -- what a step says, by what it says in the world. One that is refused says nothing
 abbrev pub said_by : MonitorState → ℕ → Result (Advanced × AlgorithmWorldState) AlgorithmRefusal → MonitorStep
-said_by m p (Ok s) = record { advanced = s.0; phase = phase_of m p; promises = m.world.algorithm.promises }
+said_by m p (Ok s) = record { advanced = s.0; phase = phase_of m p; promises = m.world.algorithm.promises; excess = excess_of m p }
 said_by m p (Err e) =
     let nothing : Advanced = record { access = record { address = record { declaration = 0; index = 0 }; stores = None; swaps = false }; value = 0; noted = nothing_noted; answer = None; blocked = false } in
-    record { advanced = nothing; phase = Out; promises = m.world.algorithm.promises }
+    record { advanced = nothing; phase = Out; promises = m.world.algorithm.promises; excess = None }
 
 abbrev pub monitor_transitions : Transitions MonitorState MonitorStep MonitorCrash RunRefusal
 monitor_transitions =
@@ -81,9 +82,13 @@ monitor_transitions =
       out_of_memory = OutOfMemory;
     }
 
+-- what is heard of a step, by what it says
+abbrev pub step_heard : ℕ → MonitorStep → Heard
+step_heard p step = with_excess p step.excess (deeds_heard step.promises p step.phase step.advanced.noted)
+
 -- what an event reports: what is heard of it, and then the answer of its call
 abbrev pub event_reports : RunEvent MonitorStep MonitorCrash → List TextReport
-event_reports (Took p step) = (deeds_heard step.promises p step.phase step.advanced.noted).reports ++ answer_reports p step.advanced.answer
+event_reports (Took p step) = (step_heard p step).reports ++ answer_reports p step.advanced.answer
 event_reports (Fell p crash) = (heard_of_crash crash.promises p crash.phase).reports ++ answer_reports p None
 
 -- ---- runs

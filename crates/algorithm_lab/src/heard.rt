@@ -3,11 +3,12 @@
 ghost use Rattle.std.specs.Prelude.{◌≡◌, ◌++◌, ◌∷◌, [], OnOk};
 ghost use Rattle.schedule.specs.Transitions.{Took, Fell};
 ghost use Rattle.algorithm_lab.specs.Heard.{doorway_reports, doorway_end_reports, entered_out_of_order, entry_reports, heard_of, phase_after, given_up, ended_by_crash, phase_crashed, heard_if, phase_if, deeds_heard, heard_of_crash};
-ghost use Rattle.algorithm_lab.specs.Monitors.{answer_reports};
+ghost use Rattle.algorithm_lab.specs.Monitors.{answer_reports, excess_reports};
 ghost use Rattle.algorithm_lab.specs.Runs.{event_reports};
 
 use crate::monitor_event::{MonitorCrash, MonitorStep};
 use crate::run_report::TextReport;
+use crate::section::BoundedSection;
 use algorithms::{AlgorithmDeed, NotedDeeds, Promises};
 use rmecore::{Outer, Phase};
 use std::alloc::AllocError;
@@ -173,10 +174,25 @@ fn put_answer(
     Ok(())
 }
 
+/// Adds that a step of p is the first above the bound of a section, if it is.
+fn put_excess(
+    reports: &mut Vec<TextReport>,
+    p: u64,
+    excess: Option<BoundedSection>,
+) -> Result<(), AllocError>
+    ensures { OnOk result (reports.new.items ≡ reports.old.items ++ excess_reports p excess) }
+{
+    if let Some(section) = excess {
+        reports.push(TextReport::Exceeded(p, section))?;
+    }
+    Ok(())
+}
+
 /// Adds what a step of p reports.
 pub fn put_step(reports: &mut Vec<TextReport>, p: u64, step: &MonitorStep) -> Result<(), AllocError>
     ensures { OnOk result (reports.new.items ≡ reports.old.items ++ event_reports (Took p step.now)) }
 {
+    put_excess(reports, p, step.excess)?;
     put_all_heard(reports, step.promises, p, step.phase, step.advanced.noted)?;
     put_answer(reports, p, step.advanced.answer)
 }

@@ -1,4 +1,5 @@
-//! What the text of the recoverable Bakery means. Each law is the contract of a function with an empty body.
+//! What the text of the recoverable Bakery means, and of what a verdict comes. Each law is the contract of a function with an empty
+//! body.
 
 ghost use Rattle.std.specs.Prelude.{◌≡◌, ◌<◌, ◌≤◌, ◌^◌, false, ℕ, List, [], ◌++◌, All, Some, None, Result, IfOk, option_and_then, option_map};
 ghost use Rattle.rmecore.specs.Machine.{answer};
@@ -13,13 +14,16 @@ ghost use Rattle.rmecore.specs.declared.outer.Outer.{Outer};
 ghost use Rattle.rmecore.specs.declared.refusal.Refusal.{Refusal};
 ghost use Rattle.schedule.specs.Reports.{line_of_report as lock_line};
 ghost use Rattle.schedule.specs.Runs.{Answered as LockAnswered, run_on as lock_run_on};
+ghost use Rattle.judge.specs.Table.{empty_state};
 ghost use Rattle.schedule.specs.Tapes.{Tape};
+ghost use Rattle.schedule.specs.Verdicts.{verdict_on};
 ghost use Rattle.schedule.specs.declared.lines.line.Line.{Line as LineOf};
 ghost use Rattle.schedule.specs.declared.replays.verdict.Verdict.{Verdict as VerdictOf};
 ghost use Rattle.schedule.specs.declared.replays.verdict.Verdict.TheVariants.{Fine};
 ghost use Rattle.algorithms.specs.FirstWords.{from_zeros};
 ghost use Rattle.algorithms.specs.Worlds.{new_refusal};
 ghost use Rattle.algorithms.specs.declared.algorithm.Algorithm.{Algorithm};
+ghost use Rattle.algorithms.specs.declared.first_values.InitializedAlgorithm.{InitializedAlgorithm as InitializedOf};
 ghost use Rattle.algorithms.specs.declared.algorithm.AlgorithmCall.{AlgorithmCall};
 ghost use Rattle.algorithm_lab.specs.Monitors.{answer_reports, first_monitor};
 ghost use Rattle.algorithm_lab.specs.Refusals.{number_of_world};
@@ -28,7 +32,8 @@ ghost use Rattle.algorithm_lab.specs.LockLines.{IsOfLock, SameRun, answer_of, im
 ghost use Rattle.algorithm_lab.specs.Moves.{ScheduleMove, Start, Step, Crash, Tells, all_said, left_by, core_call, answer_number, deed_report, refused_outcome, lock_move, text_move, SameWords};
 ghost use Rattle.algorithm_lab.specs.Replays.{ReplaysAlgorithm, run_of};
 ghost use Rattle.algorithm_lab.specs.Reports.{line_of_report, verdict_of};
-ghost use Rattle.algorithm_lab.specs.Runs.{run_on};
+ghost use Rattle.algorithm_lab.specs.Runs.{deeds_of, run_on};
+ghost use Rattle.algorithm_lab.specs.Sections.{bounds_steps};
 ghost use Rattle.algorithm_lab.specs.declared.replay_fault.AlgorithmReplayFault.{AlgorithmReplayFault};
 ghost use Rattle.algorithm_lab.specs.declared.run_report.TextReport.TheVariants.{Answered};
 
@@ -89,4 +94,11 @@ pub fn the_text_is_never_found_out()
         (answer : Result VerdictOf AlgorithmReplayFault) → IsBakery a
         → ReplaysAlgorithm before now (run_of (from_zeros a) n limit lines) answer
         → IfOk answer (λ verdict. verdict ≡ Fine) }
+{}
+
+/// A text that promises no bound on own steps is judged by its deeds alone, on every schedule.
+pub fn without_bounds_only_deeds_count()
+    ensures { (a : InitializedOf) (n limit : ℕ) (lines : List LineOf) → bounds_steps a.algorithm.promises ≡ false
+        → verdict_of n (run_of a n limit lines).reports
+        ≡ verdict_on (empty_state n 1) (deeds_of (run_of a n limit lines).reports) }
 {}

@@ -13,6 +13,8 @@ pub mod replay_fault;
 pub mod report;
 pub mod run_refusal;
 pub mod run_report;
+pub mod section;
+mod step_counts;
 pub mod verdict;
 
 pub use line_play::{hear_lines, play_lines};
@@ -22,3 +24,4 @@ pub use replay::{ReplayText, replay_algorithm, report_of_run};
 pub use replay_fault::AlgorithmReplayFault;
 pub use run_refusal::RunRefusal;
 pub use run_report::TextReport;
+pub use section::{BoundedSection, StepBound};

@@ -1,14 +1,17 @@
 //! What a step and a crash of a monitor's process say.
 
+use crate::section::BoundedSection;
 use algorithms::{Advanced, Promises};
 use rmecore::Phase;
 
-/// A step: what it says in the world, the phase of its process before it, and what the algorithm promises.
+/// A step: what it says in the world, the phase of its process before it, what the algorithm promises, and the section in which
+/// it is the first step above the bound, if there is one.
 #[derive(Clone, Copy, Debug)]
 pub struct MonitorStep {
     pub advanced: Advanced,
     pub phase: Phase,
     pub promises: Promises,
+    pub excess: Option<BoundedSection>,
 }
 
 /// A crash: the phase of its process before it, and what the algorithm promises.

@@ -1,12 +1,13 @@
-//! The verdict of a judge on what a run reports.
+//! The verdict on what a run reports: that of a judge on its deeds, and that on its own steps.
 
 ghost use Rattle.std.specs.Prelude.{◌≡◌, ◌∷◌, [], IfOk};
+ghost use Rattle.std.specs.List.{list_any};
 ghost use Rattle.judge.specs.Stands.{Keeps};
 ghost use Rattle.judge.specs.Table.{State};
 ghost use Rattle.schedule.specs.RunningVerdicts.{running_judge, Hears};
 ghost use Rattle.schedule.specs.Verdicts.{verdict_on};
 ghost use Rattle.algorithm_lab.specs.Runs.{deeds_of};
-ghost use Rattle.algorithm_lab.specs.Reports.{verdict_of};
+ghost use Rattle.algorithm_lab.specs.Reports.{is_excess, or_verdict, steps_verdict, verdict_of};
 
 use crate::run_report::TextReport;
 use judge::Judge;
@@ -22,7 +23,7 @@ fn hear(running_verdict: &mut RunningVerdict, judge: &mut Judge, reports: &TextR
 {
     match reports {
         TextReport::Did(outer) => running_verdict.hear(judge, &Deed::Outer(*outer)),
-        TextReport::Answered(_, _) => {}
+        TextReport::Answered(_, _) | TextReport::Exceeded(_, _) => {}
     }
 }
 
@@ -36,7 +37,52 @@ pub fn hear_all(running_verdict: &mut RunningVerdict, judge: &mut Judge, reports
     }
 }
 
-/// The verdict of a judge on what is reported.
+/// Whether it is an excess.
+fn is_excess(report: &TextReport) -> bool
+    ensures { result ≡ is_excess report.now }
+{
+    match report {
+        TextReport::Exceeded(_, _) => true,
+        TextReport::Did(_) | TextReport::Answered(_, _) => false,
+    }
+}
+
+/// Whether an excess is reported.
+pub fn has_excess(reports: &[TextReport]) -> bool
+    ensures { result ≡ list_any is_excess reports.now }
+{
+    reports.iter().any(|report| is_excess(report))
+}
+
+/// The verdict on the own steps: against the first excess, by the number of the deed that comes next.
+fn steps_verdict(reports: &[TextReport]) -> Verdict
+    ensures { result ≡ steps_verdict 1 reports.now }
+{
+    let mut number: u64 = 1;
+    for report in reports {
+        match report {
+            TextReport::Did(_) => number = number.saturating_add(1),
+            TextReport::Answered(_, _) => {}
+            TextReport::Exceeded(_, section) => return Verdict::Against {
+                at: number,
+                fault: section.fault(),
+            },
+        }
+    }
+    Verdict::Fine
+}
+
+/// Where one verdict is fine, the other.
+fn or_verdict(verdict: Verdict, other: Verdict) -> Verdict
+    ensures { result ≡ or_verdict verdict other }
+{
+    match verdict {
+        Verdict::Fine => other,
+        Verdict::Against { .. } => verdict,
+    }
+}
+
+/// The verdict of a judge on the deeds that are reported.
 fn judge_reports(judge: &mut Judge, reports: &[TextReport]) -> Verdict
     ensures { (start : State) → Keeps judge.old start → result ≡ verdict_on start (deeds_of reports.now) }
 {
@@ -45,12 +91,14 @@ fn judge_reports(judge: &mut Judge, reports: &[TextReport]) -> Verdict
     running_verdict.verdict()
 }
 
-/// The verdict of a judge of a new lock on what a run reports.
+/// The verdict on what a run reports: that of a judge of a new lock on its deeds, and where it allows all of them, that on its
+/// own steps.
 pub fn verdict_of(alloc: Global, procs: u64, reports: &[TextReport]) -> Result<Verdict, AllocError>
     ensures { IfOk result (λ verdict. verdict ≡ verdict_of procs reports.now) }
 {
     let Ok(mut judge) = Judge::new(alloc, procs, 1) else {
         return Err(AllocError);
     };
-    Ok(judge_reports(&mut judge, reports))
+    let judged = judge_reports(&mut judge, reports);
+    Ok(or_verdict(judged, steps_verdict(reports)))
 }

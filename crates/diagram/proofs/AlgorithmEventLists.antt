@@ -18,22 +18,23 @@ use Rattle.algorithm_lab.specs.declared.run_refusal.RunRefusal.{RunRefusal}
 use Rattle.algorithm_lab.specs.declared.run_report.TextReport.{TextReport}
 use Rattle.diagram.specs.declared.algorithm.event_list.EventList.{EventList}
 use Rattle.diagram.specs.declared.algorithm.event_list.MonitorEvent.{MonitorEvent}
+use Rattle.diagram.specs.declared.algorithm.remote_marks.MarkedEvent.{MarkedEvent}
 use Rattle.diagram.specs.declared.algorithm.row.AlgorithmAct.{AlgorithmAct}
 use Rattle.diagram.specs.declared.phase.LifelinePhase.{LifelinePhase}
-use Rattle.diagram.proofs.AlgorithmRowEffects.{line_events, run_events}
+use Rattle.diagram.proofs.AlgorithmRowEffects.{line_events}
 use Rattle.diagram.specs.AlgorithmEventEffects.{event_list_effects}
 use Rattle.diagram.specs.AlgorithmEventLists.{IsRecording, event_kept, kept_alone, kept_reports, run_event}
-use Rattle.diagram.specs.AlgorithmEvents.{drawn_event, drawn_events, event_act, event_phase, event_process, events_of, events_on}
-use Rattle.diagram.specs.AlgorithmSimulations.{event_line, event_text, events_text, kept_line, kept_lines}
+use Rattle.diagram.specs.AlgorithmEvents.{drawn_event, drawn_events, event_act, event_phase, event_process, events_of}
+use Rattle.diagram.specs.AlgorithmSimulations.{event_line, event_text, events_text, kept_line, kept_lines, marked_line}
 
 abbrev MonitorEvents : Type 0
 MonitorEvents = List (RunEvent MonitorStep MonitorCrash)
 
 -- an event is written by its parts
-pub event_written : (a : Algorithm) (event : MonitorEvent) (p : ℕ) (act : AlgorithmAct) (phase : LifelinePhase) (reports : List TextReport) → p ≡ event_process (run_event event)
-    → act ≡ event_act (run_event event) → phase ≡ event_phase (run_event event) → reports ≡ event_reports (run_event event)
-    → event_line a p act phase ++ reports_text a reports ≡ kept_line a event
-event_written a event p act phase reports process acts phases reported = rw (process, acts, phases, reported) refl
+pub event_written : (a : Algorithm) (marked : MarkedEvent) (p : ℕ) (act : AlgorithmAct) (phase : LifelinePhase) (reports : List TextReport) → p ≡ event_process (run_event marked.event)
+    → act ≡ event_act (run_event marked.event) → phase ≡ event_phase (run_event marked.event) → reports ≡ event_reports (run_event marked.event)
+    → event_line a p act phase marked.marks ++ reports_text a reports ≡ marked_line a marked
+event_written a marked p act phase reports process acts phases reported = rw (process, acts, phases, reported) refl
 
 -- ---- the events of a list
 
@@ -103,9 +104,3 @@ run_recorded first now m lines left refused reports plays none reported =
       reports_are = reported ∙ ap (flat_map kept_reports) kept ∙ reports_kept events ∙ ap (λ (run : AlgorithmRun (ℕ × RunRefusal)). run.reports) (sym is);
       refused_is = sym (ap (λ (run : AlgorithmRun (ℕ × RunRefusal)). run.refused) is ∙ plays.refused_is);
     }
-
--- its steps in words
-pub lines_of_run : (a : Algorithm) (m left : MonitorState) (lines : List Line) (events : List MonitorEvent) (reports : List TextReport) (refused : Option (ℕ × RunRefusal))
-    → IsRecording m left lines events reports refused → kept_lines a events ≡ events_text a (events_on m lines)
-lines_of_run a m left lines events reports refused is =
-    ap (kept_lines a) is.events_are ∙ lines_kept a (run_by monitor_transitions itself 2 m lines).reports ∙ ap (events_text a) (sym (run_events m lines))

@@ -39,14 +39,15 @@ pub same_count : (left m : MonitorState) → monitor_at_beginning left ≡ monit
 same_count left m same = ap (λ (x : MonitorState). x.world.procs) same
 
 -- a monitor that has gone back is as it was
-pub went_back : (m left now : MonitorState) (words : List (List ℕ)) (processes : List AlgorithmProcess) (phases : List Phase) → now.world ≡ record left.world { words = words; processes = processes } → now.phases ≡ phases
-    → words ≡ m.world.words → processes ≡ m.world.processes → phases ≡ m.phases → monitor_at_beginning left ≡ monitor_at_beginning m → now ≡ m
-went_back m left now words processes phases world heard w q f same =
-    ap (λ (x : AlgorithmWorldState). record { world = x; phases = now.phases }) world
-    ∙ ap (λ (x : List Phase). record { world = record left.world { words = words; processes = processes }; phases = x }) (heard ∙ f)
-    ∙ ap (λ (x : List (List ℕ)). record { world = record left.world { words = x; processes = processes }; phases = m.phases }) w
-    ∙ ap (λ (x : List AlgorithmProcess). record { world = record left.world { words = m.world.words; processes = x }; phases = m.phases }) q
-    ∙ ap (λ (x : MonitorState). record { world = record x.world { words = m.world.words; processes = m.world.processes }; phases = m.phases }) same
+pub went_back : (m left now : MonitorState) (words : List (List ℕ)) (processes : List AlgorithmProcess) (phases : List Phase) (steps : List ℕ) → now.world ≡ record left.world { words = words; processes = processes } → now.phases ≡ phases
+    → now.steps ≡ steps → words ≡ m.world.words → processes ≡ m.world.processes → phases ≡ m.phases → steps ≡ m.steps → monitor_at_beginning left ≡ monitor_at_beginning m → now ≡ m
+went_back m left now words processes phases steps world heard taken w q f g same =
+    ap (λ (x : AlgorithmWorldState). record { world = x; phases = now.phases; steps = now.steps }) world
+    ∙ ap (λ (x : List Phase). record { world = record left.world { words = words; processes = processes }; phases = x; steps = now.steps }) (heard ∙ f)
+    ∙ ap (λ (x : List ℕ). record { world = record left.world { words = words; processes = processes }; phases = m.phases; steps = x }) (taken ∙ g)
+    ∙ ap (λ (x : List (List ℕ)). record { world = record left.world { words = x; processes = processes }; phases = m.phases; steps = m.steps }) w
+    ∙ ap (λ (x : List AlgorithmProcess). record { world = record left.world { words = m.world.words; processes = x }; phases = m.phases; steps = m.steps }) q
+    ∙ ap (λ (x : MonitorState). record { world = record x.world { words = m.world.words; processes = m.world.processes }; phases = m.phases; steps = m.steps }) same
 
 -- ---- a simulation
 

@@ -1,13 +1,9 @@
 -- A run of an algorithm that is written step by step.
-use Rattle.std.proofs.Common.{◌≡◌, ℕ, ◌+◌, List, [], ◌∷◌, ◌++◌, Option, Some, None, Result, Ok, Err, IfOk, refl, sym, ap, ◌∙◌, subst, append-nil}
-use Rattle.std.specs.List.{flat_map}
-use Rattle.diagram.proofs.AlgorithmEventLists.{kept_again}
-use Rattle.diagram.proofs.AlgorithmRowEffects.{run_events}
-use Rattle.diagram.proofs.Common.{flat_map-cons, Line}
-use Rattle.schedule.specs.Fragments.{itself, run_on as run_by}
+use Rattle.std.proofs.Common.{◌≡◌, ℕ, ◌+◌, List, [], ◌∷◌, ◌++◌, map, Option, Some, None, Result, Ok, Err, IfOk, refl, sym, ap, ◌∙◌, subst, append-nil}
+use Rattle.diagram.proofs.Common.{Line}
+use Rattle.diagram.proofs.RemoteMarks.{marks_of_run}
 use Rattle.schedule.specs.Schedules.{Scheduled}
 use Rattle.schedule.specs.Tapes.{Tape}
-use Rattle.schedule.specs.Transitions.{RunEvent}
 use Rattle.schedule.specs.declared.replays.verdict.Verdict.{Verdict}
 use Rattle.algorithms.specs.Worlds.{AlgorithmWorldState, new_refusal}
 use Rattle.algorithms.specs.declared.algorithm.Algorithm.{Algorithm}
@@ -16,42 +12,39 @@ use Rattle.algorithms.specs.declared.refusal.AlgorithmRefusal.{AlgorithmRefusal}
 use Rattle.algorithm_lab.specs.Monitors.{MonitorState, first_monitor}
 use Rattle.algorithm_lab.specs.Replays.{HasEnd, WritesRunText, run_of, run_unless, world_fault}
 use Rattle.algorithm_lab.specs.Reports.{verdict_of}
-use Rattle.algorithm_lab.specs.Runs.{AlgorithmRun, event_reports, monitor_transitions, run_on}
-use Rattle.algorithm_lab.specs.declared.monitor_event.MonitorCrash.{MonitorCrash}
-use Rattle.algorithm_lab.specs.declared.monitor_event.MonitorStep.{MonitorStep}
+use Rattle.algorithm_lab.specs.Runs.{AlgorithmRun, event_reports, run_on}
 use Rattle.algorithm_lab.specs.declared.replay_fault.AlgorithmReplayFault.{AlgorithmReplayFault}
 use Rattle.algorithm_lab.specs.declared.replay.ReplayText.{ReplayText}
 use Rattle.algorithm_lab.specs.declared.run_refusal.RunRefusal.{RunRefusal}
 use Rattle.algorithm_lab.specs.declared.run_report.TextReport.{TextReport}
 use Rattle.diagram.specs.declared.algorithm.event_list.MonitorEvent.{MonitorEvent}
+use Rattle.diagram.specs.declared.algorithm.remote_marks.MarkedEvent.{MarkedEvent}
 use Rattle.diagram.specs.declared.algorithm.row.AlgorithmAct.{AlgorithmAct}
 use Rattle.diagram.specs.declared.phase.LifelinePhase.{LifelinePhase}
 use Rattle.diagram.specs.AlgorithmDrawings.{text_unless}
-use Rattle.diagram.specs.AlgorithmEventLists.{IsRecording, kept_alone, run_event, shown_event}
-use Rattle.diagram.specs.AlgorithmEvents.{AlgorithmEvent, drawn_event, drawn_events, event_act, event_phase, event_process, events_on}
-use Rattle.diagram.specs.AlgorithmSteps.{IsRunText, act_members, algorithm_format_line, first_objects, kept_objects, objects_by_steps, objects_unless, report_member, run_outcome, step_object, step_objects, text_by_steps, text_on_new}
+use Rattle.diagram.specs.AlgorithmEventLists.{IsRecording, run_event}
+use Rattle.diagram.specs.AlgorithmEvents.{AlgorithmEvent, event_act, event_phase, event_process, events_on}
+use Rattle.diagram.specs.AlgorithmSteps.{IsRunText, act_members, algorithm_format_line, first_objects, kept_objects, marked_objects, objects_by_steps, objects_unless, report_member, run_outcome, step_object, step_objects, text_by_steps, text_on_new}
+use Rattle.diagram.specs.RemoteMarks.{marked_events, marks_kept, shown_marked}
 use Rattle.diagram.specs.StepLines.{step_place}
 
 -- ---- the objects of events that are kept
 
 -- an object is written by its parts
-pub object_written : (a : Algorithm) (k : ℕ) (event : MonitorEvent) (p : ℕ) (act : AlgorithmAct) (phase : LifelinePhase) (reports : List TextReport) → p ≡ event_process (run_event event)
-    → act ≡ event_act (run_event event) → phase ≡ event_phase (run_event event) → reports ≡ event_reports (run_event event)
-    → step_place k p phase ++ act_members a act ++ report_member a reports ≡ step_object a k (shown_event event)
-object_written a k event p act phase reports process acts phases reported = rw (process, acts, phases, reported) refl
+pub object_written : (a : Algorithm) (k : ℕ) (marked : MarkedEvent) (p : ℕ) (act : AlgorithmAct) (phase : LifelinePhase) (reports : List TextReport) → p ≡ event_process (run_event marked.event)
+    → act ≡ event_act (run_event marked.event) → phase ≡ event_phase (run_event marked.event) → reports ≡ event_reports (run_event marked.event)
+    → step_place k p phase ++ act_members a act marked.marks ++ report_member a reports ≡ step_object a k (shown_marked marked)
+object_written a k marked p act phase reports process acts phases reported = rw (process, acts, phases, reported) refl
 
-objects_kept : (a : Algorithm) (k : ℕ) (events : List (RunEvent MonitorStep MonitorCrash)) → kept_objects a k (flat_map kept_alone events) ≡ step_objects a k (flat_map drawn_events events)
-objects_kept a k [] = refl
-objects_kept a k (e ∷ es) =
-    ap (kept_objects a k) (flat_map-cons kept_alone e es)
-    ∙ ap (λ (event : RunEvent MonitorStep MonitorCrash). step_object a (k + 1) (drawn_event event) ++ kept_objects a (k + 1) (flat_map kept_alone es)) (kept_again e)
-    ∙ ap (λ (text : List ℕ). step_object a (k + 1) (drawn_event e) ++ text) (objects_kept a (k + 1) es) ∙ ap (step_objects a k) (sym (flat_map-cons drawn_events e es))
+objects_shown : (a : Algorithm) (k : ℕ) (marked : List MarkedEvent) → marked_objects a k marked ≡ step_objects a k (map shown_marked marked)
+objects_shown a k [] = refl
+objects_shown a k (m ∷ ms) = ap (λ (text : List ℕ). step_object a (k + 1) (shown_marked m) ++ text) (objects_shown a (k + 1) ms)
 
 -- the objects of a run that is recorded
-pub objects_of_run : (a : Algorithm) (m left : MonitorState) (lines : List Line) (events : List MonitorEvent) (reports : List TextReport) (refused : Option (ℕ × RunRefusal))
-    → IsRecording m left lines events reports refused → kept_objects a 0 events ≡ step_objects a 0 (events_on m lines)
-objects_of_run a m left lines events reports refused is =
-    ap (kept_objects a 0) is.events_are ∙ objects_kept a 0 (run_by monitor_transitions itself 2 m lines).reports ∙ ap (step_objects a 0) (sym (run_events m lines))
+pub objects_of_run : (w : AlgorithmWorldState) (m left : MonitorState) (lines : List Line) (events : List MonitorEvent) (reports : List TextReport) (refused : Option (ℕ × RunRefusal))
+    → IsRecording m left lines events reports refused → kept_objects w events ≡ step_objects w.algorithm 0 (marked_events w [] (events_on m lines))
+objects_of_run w m left lines events reports refused is =
+    objects_shown w.algorithm 0 (marks_kept w [] events) ∙ ap (step_objects w.algorithm 0) (marks_of_run w m left lines events reports refused is)
 
 -- ---- a text of a run that is recorded
 
@@ -60,17 +53,17 @@ outcome_is : (run : AlgorithmRun (ℕ × RunRefusal)) (refused : Option (ℕ × 
 outcome_is run None verdict is ruled = (sym is, ruled)
 outcome_is run (Some refusal) verdict is ruled = sym is
 
-module _ (steps_text : Algorithm → List AlgorithmEvent → List ℕ) (rest_text : Option (ℕ × RunRefusal) → AlgorithmWorldState → List TextReport → List ℕ) where
+module _ (steps_text : AlgorithmWorldState → List AlgorithmEvent → List ℕ) (rest_text : Option (ℕ × RunRefusal) → AlgorithmWorldState → List TextReport → List ℕ) where
   pub text_made : (m left : MonitorState) (lines : List Line) (events : List MonitorEvent) (reports : List TextReport) (refused : Option (ℕ × RunRefusal)) (w : AlgorithmWorldState)
-      (mid new : List ℕ) (ended : Result Verdict (ℕ × RunRefusal)) → IsRecording m left lines events reports refused → w ≡ left.world → mid ≡ steps_text w.algorithm (events_on m lines)
+      (mid new : List ℕ) (ended : Result Verdict (ℕ × RunRefusal)) → IsRecording m left lines events reports refused → w ≡ left.world → mid ≡ steps_text w (events_on m lines)
       → new ≡ mid ++ rest_text refused w reports → ended ≡ run_outcome refused (verdict_of w.procs reports) → IsRunText (text_by_steps steps_text rest_text) m lines new ended
   text_made m left lines events reports refused w mid new ended is world steps rest ends =
       let run = run_on 2 m lines in
       let same : w ≡ run.left.world = world ∙ ap (λ (s : MonitorState). s.world) is.stands in (
         rest ∙ ap (λ (text : List ℕ). text ++ rest_text refused w reports) steps
-            ∙ ap (λ (s : AlgorithmWorldState). steps_text s.algorithm (events_on m lines) ++ rest_text refused s reports) same
-            ∙ ap (λ (o : Option (ℕ × RunRefusal)). steps_text run.left.world.algorithm (events_on m lines) ++ rest_text o run.left.world reports) is.refused_is
-            ∙ ap (λ (ts : List TextReport). steps_text run.left.world.algorithm (events_on m lines) ++ rest_text run.refused run.left.world ts) is.reports_are,
+            ∙ ap (λ (s : AlgorithmWorldState). steps_text s (events_on m lines) ++ rest_text refused s reports) same
+            ∙ ap (λ (o : Option (ℕ × RunRefusal)). steps_text run.left.world (events_on m lines) ++ rest_text o run.left.world reports) is.refused_is
+            ∙ ap (λ (ts : List TextReport). steps_text run.left.world (events_on m lines) ++ rest_text run.refused run.left.world ts) is.reports_are,
         subst (λ (r : Result Verdict (ℕ × RunRefusal)). HasEnd run r) (sym ends)
             (outcome_is run refused (verdict_of w.procs reports) is.refused_is
             (ap (λ (s : AlgorithmWorldState). verdict_of s.procs reports) same ∙ ap (verdict_of run.left.world.procs) is.reports_are)),
@@ -79,15 +72,15 @@ module _ (steps_text : Algorithm → List AlgorithmEvent → List ℕ) (rest_tex
 -- the lines of a run that is recorded
 pub lines_are : (m left : MonitorState) (lines : List Line) (events : List MonitorEvent) (reports : List TextReport) (refused : Option (ℕ × RunRefusal)) (w : AlgorithmWorldState)
     (text : List ℕ) (ended : Result Verdict (ℕ × RunRefusal)) → IsRecording m left lines events reports refused → w ≡ left.world
-    → text ≡ (algorithm_format_line ++ kept_objects w.algorithm 0 events) ++ objects_unless refused w reports → ended ≡ run_outcome refused (verdict_of w.procs reports)
+    → text ≡ (algorithm_format_line ++ kept_objects w events) ++ objects_unless refused w reports → ended ≡ run_outcome refused (verdict_of w.procs reports)
     → IsRunText objects_by_steps m lines text ended
 lines_are m left lines events reports refused w text ended is world made ends =
-    text_made first_objects objects_unless m left lines events reports refused w (algorithm_format_line ++ kept_objects w.algorithm 0 events) text ended is world
-    (ap (λ (t : List ℕ). algorithm_format_line ++ t) (objects_of_run w.algorithm m left lines events reports refused is)) made ends
+    text_made first_objects objects_unless m left lines events reports refused w (algorithm_format_line ++ kept_objects w events) text ended is world
+    (ap (λ (t : List ℕ). algorithm_format_line ++ t) (objects_of_run w m left lines events reports refused is)) made ends
 
 pub lines_made : (m left : MonitorState) (lines : List Line) (events : List MonitorEvent) (reports : List TextReport) (refused : Option (ℕ × RunRefusal)) (w : AlgorithmWorldState)
     {A : Type 0} (r : Result ReplayText A) → IsRecording m left lines events reports refused → w ≡ left.world
-    → IfOk r (λ made. made.text.items ≡ (algorithm_format_line ++ kept_objects w.algorithm 0 events) ++ objects_unless refused w reports)
+    → IfOk r (λ made. made.text.items ≡ (algorithm_format_line ++ kept_objects w events) ++ objects_unless refused w reports)
     → IfOk r (λ made. made.ended ≡ run_outcome refused (verdict_of w.procs reports)) → IfOk r (λ made. IsRunText objects_by_steps m lines made.text.items made.ended)
 lines_made m left lines events reports refused w (Err e) is world made ends = tt
 lines_made m left lines events reports refused w (Ok text) is world made ends = lines_are m left lines events reports refused w text.text.items text.ended is world made ends

@@ -18,6 +18,7 @@ pub mod Undone
 pub mod LinesReported
 pub mod AlgorithmRowEffects
 pub mod AlgorithmEventLists
+pub mod RemoteMarks
 pub mod AlgorithmDrawn
 pub mod AlgorithmSessions
 pub mod AlgorithmReported

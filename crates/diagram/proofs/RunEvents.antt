@@ -1,8 +1,7 @@
 -- The events of a run, line by line, and what they report.
 use Rattle.std.proofs.Common.{◌≡◌, ℕ, zero, suc, ◌+◌, true, is_some, List, [], ◌∷◌, ◌++◌, Option, Some, None, refl, sym, ap, ◌∙◌}
-use Rattle.diagram.proofs.Common.{flat_map-cons, flat_map-append, Refusal, Line, Start, Step, Crash, Behaviour, steps, line_on, run_on, reports_by, transitions_of, DiagramEvent, Took, Fell, reports_in, events_of, events_on}
+use Rattle.diagram.proofs.Common.{flat_map-cons, flat_map-append, Refusal, Line, Start, Step, Crash, Behaviour, steps, line_on, run_on, reports_by, transitions_of, DiagramEvent, Fell, reports_in, events_of, events_on}
 use Rattle.schedule.proofs.Fragments.{line_reported, run_reported}
-use Rattle.algorithm_lab.proofs.Runs.{so_of_run}
 use Rattle.schedule.specs.Fragments.{Fragment, fragment_after_line, unless, itself, line_on as line_by, run_on as run_by}
 use Rattle.schedule.specs.Runs.{LockReport}
 use Rattle.schedule.specs.Transitions.{RunEvent as EventOf, Transitions}
@@ -30,22 +29,6 @@ module _ {S T C R X : Type 0} (m : Transitions S T C R) (report : EventOf T C �
   reports_go_on s line rest accepted =
       let part = line_by m report s line in
       ap (λ (o : Option R). (fragment_after_line 2 part o (run_by m report 3 part.left rest)).reports) accepted ∙ ap (λ (xs : List X). part.reports ++ xs) (numbers 3 2 part.left rest)
-
-module _ {T C : Type 0} (P : EventOf T C → Type 0) where
-  -- it is so of each event
-  abbrev pub Each : List (EventOf T C) → Type 0
-  Each [] = Unit {0}
-  Each (event ∷ events) = P event × Each events
-
-  each_both : (es fs : List (EventOf T C)) → Each es → Each fs → Each (es ++ fs)
-  each_both [] fs first second = second
-  each_both (e ∷ es) fs first second = (first.0, each_both es fs first.1 second)
-
--- what is so of each step and of each crash is so of each event of a run
-module _ {S T C R : Type 0} (m : Transitions S T C R) (P : EventOf T C → Type 0) (steps_are : (s : S) (p : ℕ) → P (Took p (m.step s p))) (crashes_are : (s : S) (p : ℕ) → P (Fell p (m.crash s p))) where
-  pub each_of_run : (k : ℕ) (s : S) (lines : List Line) → Each P (run_by m itself k s lines).reports
-  each_of_run =
-      so_of_run m itself (λ s events left. Each P events) (λ s. tt) (λ s t u es fs first second. each_both P es fs first second) (λ s p call. tt) (λ s p taken. (steps_are s p, tt)) (λ s p taken. (crashes_are s p, tt))
 
 module _ {S : Type 0} (b : Behaviour S) where
   -- ---- what they report

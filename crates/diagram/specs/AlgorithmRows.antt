@@ -8,9 +8,11 @@ use Rattle.algorithms.specs.declared.access.WordAccess.{WordAccess}
 use Rattle.algorithms.specs.declared.access.Address.{Address}
 use Rattle.algorithms.specs.declared.algorithm.Algorithm.{Algorithm}
 use Rattle.algorithms.specs.declared.algorithm.Declaration.{Declaration}
+use Rattle.algorithms.specs.declared.algorithm.Extent.{Extent}
+use Rattle.algorithms.specs.declared.algorithm.Extent.TheVariants.{One, Each, Array, Table}
 use Rattle.algorithm_lab.specs.Reports.{line_of_report}
 use Rattle.algorithm_lab.specs.declared.run_report.TextReport.{TextReport}
-use Rattle.algorithm_lab.specs.declared.run_report.TextReport.TheVariants.{Did, Answered}
+use Rattle.algorithm_lab.specs.declared.run_report.TextReport.TheVariants.{Did, Answered, Exceeded}
 use Rattle.diagram.specs.declared.algorithm.row.AlgorithmAct.{AlgorithmAct}
 use Rattle.diagram.specs.declared.algorithm.row.AlgorithmAct.TheVariants.{Took, Blocked, Further, Crashed}
 use Rattle.diagram.specs.declared.algorithm.row.AlgorithmRow.{AlgorithmRow}
@@ -39,7 +41,7 @@ last_of rows = slice_get rows (length rows - 1)
 abbrev pub is_same_word : Address → Address → Bool
 is_same_word a b = a.declaration == b.declaration && a.index == b.index
 
--- a blocked reading counts once more where the row before is the same reading of the same process
+-- a blocked reading counts once more where the row before is the same reading of the same process, and it reports nothing
 abbrev pub counted_by : ℕ → AlgorithmRow → AlgorithmAct → AlgorithmAct → Option AlgorithmRow
 counted_by p row (Blocked access value times) (Blocked again read once) =
     if p == row.p && is_same_word again.address access.address && read == value && nat_lt times (2 ^ 64 - 1)
@@ -55,9 +57,14 @@ abbrev pub with_counted : List AlgorithmRow → AlgorithmEvent → Option Algori
 with_counted rows event None = rows ++ rows_of event
 with_counted rows event (Some row) = slice_set rows (length rows - 1) row
 
+-- an event that reports something has rows of its own
+abbrev pub counted_unless : List TextReport → Option AlgorithmRow → Option AlgorithmRow
+counted_unless [] row = row
+counted_unless (report ∷ reports) row = None
+
 -- the rows after an event
 abbrev pub with_event : List AlgorithmRow → AlgorithmEvent → List AlgorithmRow
-with_event rows event = with_counted rows event (row_counted_again event.p event.act (last_of rows))
+with_event rows event = with_counted rows event (counted_unless event.reports (row_counted_again event.p event.act (last_of rows)))
 
 -- the rows after events
 abbrev pub with_events : List AlgorithmRow → List AlgorithmEvent → List AlgorithmRow
@@ -66,11 +73,16 @@ with_events rows (event ∷ events) = with_events (with_event rows event) events
 
 -- ---- what a row shows
 
--- a shared word, by its name, with its index where its declaration has a word for each process
+-- a shared word, by its name, with its place where its declaration has an array of words
+abbrev pub word_name : Extent → List ℕ → ℕ → List ℕ
+word_name One name index = name
+word_name Each name index = indexed_name name index
+word_name (Array size) name index = indexed_name name index
+word_name (Table size columns) name index = indexed_name name index
+
 abbrev pub word_of : Option Declaration → ℕ → List ℕ
 word_of None index = []
-word_of (Some declaration) index =
-    if declaration.each then indexed_name (string_bytes declaration.name) index else string_bytes declaration.name
+word_of (Some declaration) index = word_name declaration.extent (string_bytes declaration.name) index
 
 abbrev pub word_sign : Algorithm → Address → List ℕ
 word_sign a address = word_of (slice_get a.declarations.items address.declaration) address.index
@@ -124,6 +136,7 @@ deed_report reports = None
 -- the line of the answer in what a row reports
 abbrev pub answer_reported : Algorithm → Option TextReport → List ℕ
 answer_reported a (Some (Answered p answer)) = line_of_report a (Answered p answer)
+answer_reported a (Some (Exceeded p section)) = line_of_report a (Exceeded p section)
 answer_reported a reports = []
 
 abbrev pub shown_in : Algorithm → AlgorithmRow → ShownRowState

@@ -6,6 +6,7 @@ use Rattle.schedule.specs.Schedules.{Scheduled}
 use Rattle.schedule.specs.declared.player.play_stop.PlayStop.{PlayStop}
 use Rattle.schedule.specs.declared.player.play_stop.PlayStop.TheVariants.{Refused}
 use Rattle.schedule.specs.declared.texts.fault.OutOfMemory.{OutOfMemory}
+use Rattle.algorithms.specs.Worlds.{AlgorithmWorldState}
 use Rattle.algorithms.specs.declared.algorithm.Algorithm.{Algorithm}
 use Rattle.algorithms.specs.declared.first_values.InitializedAlgorithm.{InitializedAlgorithm}
 use Rattle.algorithm_lab.proofs.Restarts.{line_leaves}
@@ -17,6 +18,8 @@ use Rattle.algorithm_lab.specs.declared.run_refusal.RunRefusal.{RunRefusal}
 use Rattle.diagram.specs.declared.algorithm.row.AlgorithmAct.{AlgorithmAct}
 use Rattle.diagram.specs.declared.algorithm.row.AlgorithmAct.TheVariants.{Crashed}
 use Rattle.diagram.specs.declared.algorithm.event_list.MonitorEvent.{MonitorEvent}
+use Rattle.diagram.specs.declared.algorithm.remote_marks.MarkedEvent.{MarkedEvent}
+use Rattle.diagram.specs.declared.algorithm.remote_marks.RemoteMarks.{RemoteMarks}
 use Rattle.diagram.specs.declared.phase.LifelinePhase.{LifelinePhase}
 use Rattle.diagram.specs.AlgorithmEventLists.{shown_event}
 use Rattle.diagram.specs.AlgorithmEvents.{AlgorithmEvent, events_of}
@@ -24,6 +27,7 @@ use Rattle.diagram.specs.AlgorithmRows.{sign_of}
 use Rattle.diagram.specs.AlgorithmStandings.{algorithm_state_text}
 use Rattle.diagram.specs.LockSimulations.{most_steps}
 use Rattle.diagram.specs.Pictures.{around, class_of}
+use Rattle.diagram.specs.RemoteMarks.{MarkedAlgorithmEvent, marked_events, marks_text, shown_marked}
 use Rattle.diagram.specs.Semantics.{Semantics, steps_to_answer}
 use Rattle.diagram.specs.Sessions.{SessionState, at_schedule}
 
@@ -34,18 +38,32 @@ abbrev pub access_text : Algorithm → AlgorithmAct → List ℕ
 access_text a Crashed = []
 access_text a act = 32 ∷ sign_of a act
 
--- the phase of a process after a step, and what it reads or writes
-unfoldable pub event_line : Algorithm → ℕ → AlgorithmAct → LifelinePhase → List ℕ
-event_line a p act phase = around (codes "at ") p (codes " ") ++ class_of phase ++ access_text a act ++ 10 ∷ []
+-- the phase of a process after a step, what it reads or writes, and in which models that is remote
+unfoldable pub event_line : Algorithm → ℕ → AlgorithmAct → LifelinePhase → Option RemoteMarks → List ℕ
+event_line a p act phase marks = around (codes "at ") p (codes " ") ++ class_of phase ++ access_text a act ++ marks_text marks ++ 10 ∷ []
 
--- a step or a crash, and what it reports
+-- a step or a crash with these marks, and what it reports
+abbrev pub marked_text : Algorithm → MarkedAlgorithmEvent → List ℕ
+marked_text a marked = event_line a marked.event.p marked.event.act marked.event.phase marked.marks ++ reports_text a marked.event.reports
+
+-- a step or a crash without marks, as a session has it
 abbrev pub event_text : Algorithm → AlgorithmEvent → List ℕ
-event_text a event = event_line a event.p event.act event.phase ++ reports_text a event.reports
+event_text a event = marked_text a (record { event = event; marks = None })
 
 abbrev pub events_text : Algorithm → List AlgorithmEvent → List ℕ
 events_text a events = flat_map (event_text a) events
 
+-- all of a run that leaves this world, with their marks
+abbrev pub run_text : AlgorithmWorldState → List AlgorithmEvent → List ℕ
+run_text w events = flat_map (marked_text w.algorithm) (marked_events w [] events)
+
 -- the same of events that are kept in a list
+abbrev pub marked_line : Algorithm → MarkedEvent → List ℕ
+marked_line a marked = marked_text a (shown_marked marked)
+
+abbrev pub marked_lines : Algorithm → List MarkedEvent → List ℕ
+marked_lines a marked = flat_map (marked_line a) marked
+
 abbrev pub kept_line : Algorithm → MonitorEvent → List ℕ
 kept_line a event = event_text a (shown_event event)
 

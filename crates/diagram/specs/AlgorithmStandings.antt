@@ -63,18 +63,19 @@ has_value [] = false
 has_value (word ∷ words) = if word == 0 then has_value words else true
 
 -- the line of a declaration, as at the end of a report. None where its words are 0
-abbrev pub words_shown : ℕ → Declaration → List ℕ → List ℕ
-words_shown procs declaration row = if has_value (take (words_used procs declaration) row) then words_line procs declaration row else []
+abbrev pub words_shown : ℕ → ℕ → Declaration → List ℕ → List ℕ
+words_shown procs limit declaration row =
+    if has_value (take (words_used procs limit declaration) row) then words_line procs limit declaration row else []
 
 -- the lines of declarations, of which the first has the row at this place
-abbrev pub all_words_shown : ℕ → List (List ℕ) → ℕ → List Declaration → List ℕ
-all_words_shown procs rows at [] = []
-all_words_shown procs rows at (declaration ∷ declarations) =
-    words_shown procs declaration (slice_index_or rows at []) ++ all_words_shown procs rows (at + 1) declarations
+abbrev pub all_words_shown : ℕ → ℕ → List (List ℕ) → ℕ → List Declaration → List ℕ
+all_words_shown procs limit rows at [] = []
+all_words_shown procs limit rows at (declaration ∷ declarations) =
+    words_shown procs limit declaration (slice_index_or rows at []) ++ all_words_shown procs limit rows (at + 1) declarations
 
 -- ---- the state of a world with its monitor
 
 abbrev pub algorithm_state_text : MonitorState → List ℕ
 algorithm_state_text m =
     process_lines m.world.algorithm m.phases 0 m.world.processes
-    ++ all_words_shown m.world.procs m.world.words 0 m.world.algorithm.declarations.items
+    ++ all_words_shown m.world.procs m.world.limit m.world.words 0 m.world.algorithm.declarations.items

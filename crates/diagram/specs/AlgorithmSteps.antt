@@ -17,22 +17,24 @@ use Rattle.algorithm_lab.specs.Runs.{run_on}
 use Rattle.algorithm_lab.specs.declared.run_refusal.RunRefusal.{RunRefusal}
 use Rattle.algorithm_lab.specs.declared.run_report.TextReport.{TextReport}
 use Rattle.diagram.specs.declared.algorithm.event_list.MonitorEvent.{MonitorEvent}
+use Rattle.diagram.specs.declared.algorithm.remote_marks.MarkedEvent.{MarkedEvent}
+use Rattle.diagram.specs.declared.algorithm.remote_marks.RemoteMarks.{RemoteMarks}
 use Rattle.diagram.specs.declared.algorithm.row.AlgorithmAct.{AlgorithmAct}
 use Rattle.diagram.specs.declared.algorithm.row.AlgorithmAct.TheVariants.{Took, Blocked}
 use Rattle.diagram.specs.AlgorithmDrawings.{text_unless}
-use Rattle.diagram.specs.AlgorithmEventLists.{shown_event}
 use Rattle.diagram.specs.AlgorithmEvents.{AlgorithmEvent, events_on}
 use Rattle.diagram.specs.AlgorithmRows.{word_sign}
-use Rattle.diagram.specs.AlgorithmSimulations.{events_text}
+use Rattle.diagram.specs.AlgorithmSimulations.{run_text}
 use Rattle.diagram.specs.Pictures.{around}
+use Rattle.diagram.specs.RemoteMarks.{MarkedAlgorithmEvent, marked_events, marks_kept, marks_member, shown_marked}
 use Rattle.diagram.specs.StepLines.{quoted_text, step_place, verdict_object}
 
 -- the text of the run of these lines: its steps and crashes, and what follows them
-module _ (steps_text : Algorithm → List AlgorithmEvent → List ℕ) (rest_text : Option (ℕ × RunRefusal) → AlgorithmWorldState → List TextReport → List ℕ) where
+module _ (steps_text : AlgorithmWorldState → List AlgorithmEvent → List ℕ) (rest_text : Option (ℕ × RunRefusal) → AlgorithmWorldState → List TextReport → List ℕ) where
   abbrev pub text_by_steps : MonitorState → List Line → List ℕ
   text_by_steps m lines =
       let run = run_on 2 m lines in
-      steps_text run.left.world.algorithm (events_on m lines) ++ rest_text run.refused run.left.world run.reports
+      steps_text run.left.world (events_on m lines) ++ rest_text run.refused run.left.world run.reports
 
 -- ---- in words
 
@@ -41,9 +43,9 @@ abbrev pub end_unless : Option (ℕ × RunRefusal) → AlgorithmWorldState → L
 end_unless None w reports = report_end w reports
 end_unless (Some refusal) w reports = []
 
--- each step and crash with what it reports below it, and the end of the report
+-- each step and crash with its marks and what it reports below it, and the end of the report
 abbrev pub report_by_steps : MonitorState → List Line → List ℕ
-report_by_steps m lines = text_by_steps events_text end_unless m lines
+report_by_steps m lines = text_by_steps run_text end_unless m lines
 
 -- ---- as JSON: the parts of an object
 
@@ -65,10 +67,14 @@ access_members a access value =
     ++ around (codes "\",\"value\":") value [] ++ swapped_member access
 
 -- what a process does. A crash has no access
-abbrev pub act_members : Algorithm → AlgorithmAct → List ℕ
-act_members a (Took access value) = access_members a access value
-act_members a (Blocked access value times) = access_members a access value
-act_members a act = codes "\"access\":null,\"word\":null,\"value\":null"
+abbrev pub access_part : Algorithm → AlgorithmAct → List ℕ
+access_part a (Took access value) = access_members a access value
+access_part a (Blocked access value times) = access_members a access value
+access_part a act = codes "\"access\":null,\"word\":null,\"value\":null"
+
+-- the same with its marks
+abbrev pub act_members : Algorithm → AlgorithmAct → Option RemoteMarks → List ℕ
+act_members a act marks = access_part a act ++ marks_member marks
 
 -- a text without its last byte
 abbrev pub without_last : List ℕ → List ℕ
@@ -92,18 +98,23 @@ unfoldable pub report_member : Algorithm → List TextReport → List ℕ
 report_member a reports = codes ",\"report\":[" ++ reports_list a reports ++ codes "]}\n"
 
 -- the k-th step or crash of a run, as an object
-abbrev pub step_object : Algorithm → ℕ → AlgorithmEvent → List ℕ
-step_object a k event = step_place k event.p event.phase ++ act_members a event.act ++ report_member a event.reports
+abbrev pub step_object : Algorithm → ℕ → MarkedAlgorithmEvent → List ℕ
+step_object a k marked =
+    step_place k marked.event.p marked.event.phase ++ act_members a marked.event.act marked.marks ++ report_member a marked.event.reports
 
 -- those after k of them
-abbrev pub step_objects : Algorithm → ℕ → List AlgorithmEvent → List ℕ
+abbrev pub step_objects : Algorithm → ℕ → List MarkedAlgorithmEvent → List ℕ
 step_objects a k [] = []
 step_objects a k (event ∷ events) = step_object a (k + 1) event ++ step_objects a (k + 1) events
 
 -- the same of events that are kept in a list
-abbrev pub kept_objects : Algorithm → ℕ → List MonitorEvent → List ℕ
-kept_objects a k [] = []
-kept_objects a k (event ∷ events) = step_object a (k + 1) (shown_event event) ++ kept_objects a (k + 1) events
+abbrev pub marked_objects : Algorithm → ℕ → List MarkedEvent → List ℕ
+marked_objects a k [] = []
+marked_objects a k (marked ∷ more) = step_object a (k + 1) (shown_marked marked) ++ marked_objects a (k + 1) more
+
+-- those of a whole run
+abbrev pub kept_objects : AlgorithmWorldState → List MonitorEvent → List ℕ
+kept_objects w events = marked_objects w.algorithm 0 (marks_kept w [] events)
 
 -- further values, each after a comma
 abbrev pub more_values : List ℕ → List ℕ
@@ -115,15 +126,16 @@ values_list [] = []
 values_list (value ∷ values) = decimal value ++ more_values values
 
 -- the words of a declaration, as an object
-unfoldable pub words_object : ℕ → Declaration → List ℕ → List ℕ
-words_object procs declaration row =
-    codes "{\"words\":\"" ++ string_bytes declaration.name ++ codes "\",\"values\":[" ++ values_list (take (words_used procs declaration) row) ++ codes "]}\n"
+unfoldable pub words_object : ℕ → ℕ → Declaration → List ℕ → List ℕ
+words_object procs limit declaration row =
+    codes "{\"words\":\"" ++ string_bytes declaration.name ++ codes "\",\"values\":["
+    ++ values_list (take (words_used procs limit declaration) row) ++ codes "]}\n"
 
 -- those of declarations, of which the first has the row at this place
-abbrev pub words_objects : ℕ → List (List ℕ) → ℕ → List Declaration → List ℕ
-words_objects procs rows at [] = []
-words_objects procs rows at (declaration ∷ declarations) =
-    words_object procs declaration (slice_index_or rows at []) ++ words_objects procs rows (at + 1) declarations
+abbrev pub words_objects : ℕ → ℕ → List (List ℕ) → ℕ → List Declaration → List ℕ
+words_objects procs limit rows at [] = []
+words_objects procs limit rows at (declaration ∷ declarations) =
+    words_object procs limit declaration (slice_index_or rows at []) ++ words_objects procs limit rows (at + 1) declarations
 
 -- ---- as JSON: all lines
 
@@ -133,7 +145,7 @@ algorithm_format_line = codes "{\"format\":\"rmelab algorithm steps\",\"version\
 
 -- the last lines: the shared words, and the verdict
 abbrev pub last_objects : AlgorithmWorldState → List TextReport → List ℕ
-last_objects w reports = words_objects w.procs w.words 0 w.algorithm.declarations.items ++ verdict_object (verdict_of w.procs reports)
+last_objects w reports = words_objects w.procs w.limit w.words 0 w.algorithm.declarations.items ++ verdict_object (verdict_of w.procs reports)
 
 -- unless a line is refused
 abbrev pub objects_unless : Option (ℕ × RunRefusal) → AlgorithmWorldState → List TextReport → List ℕ
@@ -141,8 +153,8 @@ objects_unless None w reports = last_objects w reports
 objects_unless (Some refusal) w reports = []
 
 -- the lines before them
-abbrev pub first_objects : Algorithm → List AlgorithmEvent → List ℕ
-first_objects a events = algorithm_format_line ++ step_objects a 0 events
+abbrev pub first_objects : AlgorithmWorldState → List AlgorithmEvent → List ℕ
+first_objects w events = algorithm_format_line ++ step_objects w.algorithm 0 (marked_events w [] events)
 
 -- the format, an object for each step and crash, and the last lines
 abbrev pub objects_by_steps : MonitorState → List Line → List ℕ

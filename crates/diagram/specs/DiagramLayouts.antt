@@ -1,8 +1,10 @@
 -- What a row is drawn with: the sizes of the whole, and the lifeline state after the rows before it.
-use Rattle.std.specs.Prelude.{ℕ, ◌==◌, Bool, List, Option, is_some, if◌then◌else◌, ◌&&◌}
+use Rattle.std.specs.Prelude.{ℕ, ◌==◌, Bool, true, false, List, Option, is_some, if◌then◌else◌, ◌&&◌}
 use Rattle.redomail.specs.declared.deed.Deed.{Deed}
 use Rattle.redomail.specs.declared.layout.Layout.{Layout}
 use Rattle.rmecore.specs.Simulated.{one_more}
+use Rattle.rmecore.specs.declared.fault.Fault.{Fault}
+use Rattle.rmecore.specs.declared.fault.Fault.TheVariants.{LongExit, LongRecovery, LongDoorway}
 use Rattle.schedule.specs.declared.texts.head.Head.{Head}
 use Rattle.schedule.specs.declared.replays.verdict.Verdict.{Verdict}
 use Rattle.schedule.specs.declared.replays.verdict.Verdict.TheVariants.{Fine, Against}
@@ -18,10 +20,17 @@ use Rattle.diagram.specs.ShownRows.{ShownRowState}
 abbrev pub layout_of : Head → Layout
 layout_of head = record { procs = head.procs; cap = head.cap; width = head.width }
 
+-- a fault is of a deed that is refused. Else it is of own steps
+abbrev pub is_of_deed : Fault → Bool
+is_of_deed LongExit = false
+is_of_deed LongRecovery = false
+is_of_deed LongDoorway = false
+is_of_deed _ = true
+
 -- the number of the deed that a verdict is against; 0 if there is none
 abbrev pub deed_against : Verdict → ℕ
 deed_against Fine = 0
-deed_against (Against at fault) = at
+deed_against (Against at fault) = if is_of_deed fault then at else 0
 
 -- the number of the deed that the verdict is against, 0 if there is none
 abbrev pub against : End → ℕ

@@ -10,6 +10,7 @@ pub mod Drawings
 pub mod Followed
 pub mod AlgorithmEvents
 pub mod AlgorithmEventLists
+pub mod RemoteMarks
 pub mod AlgorithmEventEffects
 pub mod AlgorithmRows
 pub mod AlgorithmDrawings

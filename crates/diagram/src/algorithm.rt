@@ -3,6 +3,7 @@
 pub(crate) mod event_list;
 pub mod laws;
 pub mod page;
+pub(crate) mod remote_marks;
 pub mod row;
 pub(crate) mod row_collector;
 pub mod run_diagram;

@@ -1,11 +1,12 @@
 //! What all rows of a drawing are drawn with.
 
 ghost use Rattle.std.specs.Prelude.{◌≡◌, length};
-ghost use Rattle.diagram.specs.DiagramLayouts.{against as against_in, deed_against as deed_in, layout_of as layout_in};
+ghost use Rattle.diagram.specs.DiagramLayouts.{against as against_in, deed_against as deed_in, is_of_deed, layout_of as layout_in};
 ghost use Rattle.diagram.specs.Drawings.{diagram_layout_of as diagram_layout_for};
 
 use crate::drawing::{Drawing, End};
 use redomail::Layout;
+use rmecore::Fault;
 use schedule::Verdict;
 use schedule::texts::head::Head;
 
@@ -29,13 +30,29 @@ pub struct DiagramLayout {
     pub against: u64,
 }
 
+/// Whether a fault is of a deed that is refused. Else it is of own steps.
+fn is_of_deed(fault: Fault) -> bool
+    ensures { result ≡ is_of_deed fault }
+{
+    match fault {
+        Fault::LongExit | Fault::LongRecovery | Fault::LongDoorway => false,
+        Fault::OutOfPlace
+        | Fault::TwoInside
+        | Fault::NotReentered
+        | Fault::Overtaken { .. }
+        | Fault::NotInside
+        | Fault::MailOrder
+        | Fault::AfterClose => true,
+    }
+}
+
 /// The number of the deed that a verdict is against; 0 where it is against none.
 fn deed_against(verdict: Verdict) -> u64
     ensures { result ≡ deed_in verdict }
 {
     match verdict {
         Verdict::Fine => 0,
-        Verdict::Against { at, .. } => at,
+        Verdict::Against { at, fault } => if is_of_deed(fault) { at } else { 0 },
     }
 }
 

@@ -2,7 +2,7 @@
 
 ghost use Rattle.std.specs.Prelude.{◌≡◌, ◌++◌, OnOk};
 ghost use Rattle.diagram.specs.AlgorithmEvents.{act_of as act_in, lifeline_phase as phase_in};
-ghost use Rattle.diagram.specs.AlgorithmRows.{access_sign, answer_reported, blocked_sign, deed_report as deed_in, load_sign, mark_of as mark_in, swap_sign, shown_in, sign_of, wide_of as wide_in, word_sign};
+ghost use Rattle.diagram.specs.AlgorithmRows.{access_sign, answer_reported, blocked_sign, deed_report as deed_in, load_sign, mark_of as mark_in, swap_sign, shown_in, sign_of, wide_of as wide_in, word_name, word_sign};
 
 use crate::mark::Mark;
 use crate::page_parts::{put_indexed, put_piece, put_text};
@@ -10,7 +10,7 @@ use crate::phase::LifelinePhase;
 use crate::shown_row::{Row, ShownRow, sign_width};
 use algorithm_lab::TextReport;
 use algorithm_lab::report::put_reports;
-use algorithms::{Address, Advanced, Algorithm, WordAccess};
+use algorithms::{Address, Advanced, Algorithm, Extent, WordAccess};
 use redomail::Deed;
 use rmecore::Phase;
 use std::alloc::AllocError;
@@ -61,6 +61,21 @@ pub(crate) fn lifeline_phase(phase: Phase) -> LifelinePhase
     }
 }
 
+/// Writes the name of a shared word, with its place in an array.
+fn put_word_name(
+    out: &mut Vec<u8>,
+    extent: &Extent,
+    name: &[u8],
+    index: u64,
+) -> Result<(), AllocError>
+    ensures { OnOk result (out.new.items ≡ out.old.items ++ word_name extent.now name.now index) }
+{
+    match extent {
+        Extent::One => put_text(out, name),
+        Extent::Each | Extent::Array(_) | Extent::Table(..) => put_indexed(out, name, index),
+    }
+}
+
 /// Writes the name of a shared word.
 pub(crate) fn put_word(
     out: &mut Vec<u8>,
@@ -71,10 +86,10 @@ pub(crate) fn put_word(
 {
     match algorithm.declarations.get(address.declaration) {
         None => Ok(()),
-        Some(declaration) if declaration.each => {
-            put_indexed(out, declaration.name.as_bytes(), address.index)
+        Some(declaration) => {
+            let name = declaration.name.as_bytes();
+            put_word_name(out, &declaration.extent, name, address.index)
         }
-        Some(declaration) => put_text(out, declaration.name.as_bytes()),
     }
 }
 
@@ -193,11 +208,11 @@ fn deed_report(reports: Option<TextReport>) -> Option<Deed>
 {
     match reports {
         Some(TextReport::Did(outer)) => Some(Deed::Outer(outer)),
-        Some(TextReport::Answered(..)) | None => None,
+        Some(TextReport::Answered(..) | TextReport::Exceeded(..)) | None => None,
     }
 }
 
-/// Writes the line of the answer in what a row reports.
+/// Writes the line of the answer or of the excess in what a row reports.
 fn put_answer_report(
     out: &mut Vec<u8>,
     algorithm: &Algorithm,
@@ -210,6 +225,11 @@ fn put_answer_report(
             out,
             algorithm,
             TextReport::Answered(p, answer),
+        ),
+        Some(TextReport::Exceeded(p, section)) => put_reports(
+            out,
+            algorithm,
+            TextReport::Exceeded(p, section),
         ),
         Some(TextReport::Did(_)) | None => Ok(()),
     }

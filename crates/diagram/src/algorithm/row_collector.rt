@@ -3,7 +3,7 @@
 ghost use Rattle.std.specs.Prelude.{◌≡◌, ◌++◌, [], IfOk, OnOk, drop, map};
 ghost use Rattle.diagram.specs.AlgorithmEventLists.{shown_event};
 ghost use Rattle.diagram.specs.AlgorithmPages.{with_kept};
-ghost use Rattle.diagram.specs.AlgorithmRows.{row_counted_again as counted_in, counted_by, further_row as further_of, last_of, rows_of, with_event};
+ghost use Rattle.diagram.specs.AlgorithmRows.{row_counted_again as counted_in, counted_by, counted_unless, further_row as further_of, last_of, rows_of, with_event};
 
 use crate::algorithm::event_list::MonitorEvent;
 use crate::algorithm::row::{AlgorithmAct, AlgorithmRow, act_of, lifeline_phase};
@@ -43,6 +43,22 @@ fn count_again(rows: &[AlgorithmRow], p: u64, act: AlgorithmAct) -> Option<Algor
     match rows.last() {
         Some(row) => counted_row(row, p, act),
         None => None,
+    }
+}
+
+/// The last row, counted once more, if this is the same blocked reading of the same process, and it reports nothing.
+fn count_unless(
+    rows: &[AlgorithmRow],
+    p: u64,
+    act: AlgorithmAct,
+    reports: &[TextReport],
+) -> Option<AlgorithmRow>
+    ensures { result ≡ counted_unless reports.now (counted_in p act (last_of rows.now)) }
+{
+    if reports.is_empty() {
+        count_again(rows, p, act)
+    } else {
+        None
     }
 }
 
@@ -108,7 +124,7 @@ fn note(
     ensures { OnOk result (rows.new.items
         ≡ with_event rows.old.items (record { p = p; act = act; phase = phase; reports = reports.now })) }
 {
-    let Some(row) = count_again(rows.as_slice(), p, act) else {
+    let Some(row) = count_unless(rows.as_slice(), p, act, reports) else {
         return put_rows(rows, p, act, phase, reports);
     };
     let last = rows.len().saturating_sub(1);

@@ -3,10 +3,11 @@
 ghost use Rattle.std.specs.Prelude.{◌≡◌, ◌++◌, IfOk, OnOk};
 ghost use Rattle.algorithm_lab.specs.Replays.{run_of, WritesRunText};
 ghost use Rattle.algorithm_lab.specs.Reports.{verdict_of};
-ghost use Rattle.diagram.specs.AlgorithmSimulations.{access_text, event_line, kept_line, kept_lines};
+ghost use Rattle.diagram.specs.AlgorithmSimulations.{access_text, event_line, kept_lines, marked_line, marked_lines};
 ghost use Rattle.diagram.specs.AlgorithmSteps.{end_unless, IsRunText, report_by_steps, run_outcome, text_on_new};
 
 use crate::algorithm::event_list::{MonitorEvent, Recording, record_run};
+use crate::algorithm::remote_marks::{MarkedEvent, RemoteMarks, mark_events, put_marks};
 use crate::algorithm::row::{AlgorithmAct, put_sign};
 use crate::lifelines::class_of;
 use crate::page_parts::{put_around, put_text};
@@ -30,7 +31,7 @@ fn put_access(out: &mut Vec<u8>, algorithm: &Algorithm, act: AlgorithmAct) -> Re
     }
 }
 
-/// Writes the phase of a process after a step, and what it reads or writes.
+/// Writes the phase of a process after a step, what it reads or writes, and in which models that is remote.
 #[tactic(auto, unfolding(crate::specs::AlgorithmSimulations::event_line))]
 fn put_place(
     out: &mut Vec<u8>,
@@ -38,31 +39,41 @@ fn put_place(
     p: u64,
     act: AlgorithmAct,
     phase: LifelinePhase,
+    marks: Option<RemoteMarks>,
 ) -> Result<(), AllocError>
-    ensures { OnOk result (out.new.items ≡ out.old.items ++ event_line algorithm.now p act phase) }
+    ensures { OnOk result (out.new.items ≡ out.old.items ++ event_line algorithm.now p act phase marks) }
 {
     put_around(out, b"at ", p, b" ")?;
     put_text(out, class_of(phase))?;
     put_access(out, algorithm, act)?;
+    put_marks(out, marks)?;
     put_text(out, b"\n")
 }
 
-/// Writes an event, and what it reports.
+/// Writes an event with its marks, and what it reports.
 fn put_event(
     alloc: Global,
     out: &mut Vec<u8>,
     algorithm: &Algorithm,
-    event: &MonitorEvent,
+    marked: MarkedEvent,
 ) -> Result<(), AllocError>
-    ensures { OnOk result (out.new.items ≡ out.old.items ++ kept_line algorithm.now event.now) }
+    ensures { OnOk result (out.new.items ≡ out.old.items ++ marked_line algorithm.now marked) }
 {
+    let MarkedEvent { event, marks } = marked;
     let mut reports = Vec::new(alloc);
     event.put_reports(&mut reports)?;
-    put_place(out, algorithm, event.process(), event.act(), event.phase())?;
+    put_place(
+        out,
+        algorithm,
+        event.process(),
+        event.act(),
+        event.phase(),
+        marks,
+    )?;
     put_all_reports(out, algorithm, reports.as_slice())
 }
 
-/// Writes events, and what they report.
+/// Writes events without marks, and what they report.
 pub(crate) fn put_events(
     alloc: Global,
     out: &mut Vec<u8>,
@@ -72,7 +83,23 @@ pub(crate) fn put_events(
     ensures { OnOk result (out.new.items ≡ out.old.items ++ kept_lines algorithm.now events.now) }
 {
     for event in events {
-        put_event(alloc, out, algorithm, event)?;
+        let event = *event;
+        put_event(alloc, out, algorithm, MarkedEvent { event, marks: None })?;
+    }
+    Ok(())
+}
+
+/// Writes events with their marks, and what they report.
+fn put_marked_events(
+    alloc: Global,
+    out: &mut Vec<u8>,
+    algorithm: &Algorithm,
+    marked: &[MarkedEvent],
+) -> Result<(), AllocError>
+    ensures { OnOk result (out.new.items ≡ out.old.items ++ marked_lines algorithm.now marked.now) }
+{
+    for event in marked {
+        put_event(alloc, out, algorithm, *event)?;
     }
     Ok(())
 }
@@ -105,19 +132,16 @@ fn report_by_steps(
 {
     let recording = record_run(alloc, &mut monitor, schedule)?;
     let world = monitor.world();
+    let algorithm = world.algorithm();
+    let marked = mark_events(alloc, world, recording.events.as_slice())?;
     let mut text = Vec::new(alloc);
-    put_events(
-        alloc,
-        &mut text,
-        world.algorithm(),
-        recording.events.as_slice(),
-    )?;
+    put_marked_events(alloc, &mut text, algorithm, marked.as_slice())?;
     let ended = put_end(alloc, &mut text, world, &recording)?;
     Ok(ReplayText { text, ended })
 }
 
 /// Replays a schedule on a new world of an algorithm as `replay_algorithm` does, and writes each step and crash above what it
-/// reports. All of it is made before the first byte is written.
+/// reports, with the models of memory in which its access is remote. All of it is made before the first byte is written.
 pub fn follow_algorithm<W: Sink>(
     alloc: Global,
     algorithm: InitializedAlgorithm,

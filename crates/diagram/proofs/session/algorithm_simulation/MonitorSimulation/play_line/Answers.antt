@@ -28,6 +28,6 @@ returns-in_ok-number-in-Err c =
     let number = c.in_ok-number-in-Err.number in
     let copy = c.in_ok-checkpoint.ensures.copy in
     let is = refused_by c.new-list.result c.play_line.new.listener m left c.args.line.now c.in-Err.stop number c.in-Err.ensures c.new-list.ensures c.in_ok-number-in-Err.ensures in
-    let back = went_back m left c.go_back.new.self _ _ _ c.go_back.ensures.world c.go_back.ensures.phases copy.0 copy.1 copy.2 is.begins in
+    let back = went_back m left c.go_back.new.self _ _ _ _ c.go_back.ensures.world c.go_back.ensures.phases c.go_back.ensures.steps copy.0 copy.1 copy.2 copy.3 is.begins in
     let said = refused_line m left c.go_back.new.self c.args.line.now number c.args.out.now.items is back in
     record { refused = said.0; text = said.1; after = said.2; same = (refl {A = List ℕ}, back) }

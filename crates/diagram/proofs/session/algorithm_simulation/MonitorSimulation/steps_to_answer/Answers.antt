@@ -12,11 +12,11 @@ returns-in-Some-clause-same c =
     let m = c.args.self.now in
     let left = c.steps_to_answer.new.machine in
     let copy = c.in_ok-checkpoint.ensures.copy in
-    went_back m left c.go_back.new.self _ _ _ c.go_back.ensures.world c.go_back.ensures.phases copy.0 copy.1 copy.2 (steps_begin m left c.args.p 1000000 c.in_ok-steps.ensures.left)
+    went_back m left c.go_back.new.self _ _ _ _ c.go_back.ensures.world c.go_back.ensures.phases c.go_back.ensures.steps copy.0 copy.1 copy.2 copy.3 (steps_begin m left c.args.p 1000000 c.in_ok-steps.ensures.left)
 
 pub returns-in-None-clause-same : goal.returns-in-None-clause-same
 returns-in-None-clause-same c =
     let m = c.args.self.now in
     let left = c.steps_to_answer.new.machine in
     let copy = c.in_ok-checkpoint.ensures.copy in
-    went_back m left c.go_back.new.self _ _ _ c.go_back.ensures.world c.go_back.ensures.phases copy.0 copy.1 copy.2 (steps_begin m left c.args.p 1000000 c.in_ok-steps.ensures.left)
+    went_back m left c.go_back.new.self _ _ _ _ c.go_back.ensures.world c.go_back.ensures.phases c.go_back.ensures.steps copy.0 copy.1 copy.2 copy.3 (steps_begin m left c.args.p 1000000 c.in_ok-steps.ensures.left)

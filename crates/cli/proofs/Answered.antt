@@ -11,15 +11,16 @@ use Rattle.cli.specs.declared.arguments.args.Command.{Command}
 use Rattle.cli.specs.declared.arguments.args.Cycles.{Cycles}
 use Rattle.cli.specs.declared.arguments.args.HuntArgs.{HuntArgs}
 use Rattle.cli.specs.declared.arguments.args.AlgorithmHuntArgs.{AlgorithmHuntArgs}
+use Rattle.cli.specs.declared.arguments.args.CostArgs.{CostArgs}
 use Rattle.cli.specs.declared.arguments.args.ExploreArgs.{ExploreArgs}
 use Rattle.cli.specs.declared.arguments.args.AlgorithmExploreArgs.{AlgorithmExploreArgs}
-use Rattle.cli.specs.declared.arguments.args.Command.TheVariants.{Replay, ReplayAlgorithm, Run, Hunt, HuntAlgorithm, Explore, ExploreAlgorithm, States, StatesAlgorithm, Judge, Draw, DrawAlgorithm, Shrink, ShrinkAlgorithm, Step, StepAlgorithm, Explain}
+use Rattle.cli.specs.declared.arguments.args.Command.TheVariants.{Replay, ReplayAlgorithm, Run, Hunt, HuntAlgorithm, Explore, ExploreAlgorithm, Cost, States, StatesAlgorithm, Judge, Draw, DrawAlgorithm, Shrink, ShrinkAlgorithm, Step, StepAlgorithm, Explain}
 use Rattle.cli.specs.declared.arguments.words.WordsFault.{WordsFault}
 use Rattle.cli.specs.declared.arguments.words.WordsFault.TheVariants.{Help, Refused, BadVariant, BadSize, Unreadable, OutOfMemory}
 use Rattle.cli.specs.CommandLine.{rmelab}
-use Rattle.cli.specs.Given.{Given, AsksFor, AsksForCycles, word_of_cycles, word_of_variant}
+use Rattle.cli.specs.Given.{Given, AsksFor, AsksForCycles, AsksForNoModel, word_of_cycles, word_of_variant}
 use Rattle.cli.specs.ReadWords.{GoesWithImage, IsAlone, IsBadBesideImage, IsBesideAlgorithm, IsBadVariant, TakesImage, NeedsLock, HasBadVariant}
-use Rattle.cli.specs.ReadWords.{IsHunt, IsAlgorithmHunt, IsBadHunt, IsBadAlgorithmHunt, IsExplore, IsAlgorithmExplore, IsBadSearch, IsBadAlgorithmSearch, IsBadStarving}
+use Rattle.cli.specs.ReadWords.{IsHunt, IsAlgorithmHunt, IsBadHunt, IsBadAlgorithmHunt, IsExplore, IsAlgorithmExplore, AsksForCost, IsBadSearch, IsBadAlgorithmSearch, IsBadCost, IsBadStarving}
 use Rattle.cli.specs.ReadWords.{IsOutOfRange, HasBadSize, HasNoLock, HasBadWords, IsCommand, IsFault, IsFaultOfSearch, IsFaultOfStream, TakesWords, IsWordsRefusal}
 use Rattle.cli.specs.Sizes.{IsInRanges, RunFits, IsHuntSize}
 use Rattle.cli.proofs.Texts.{differ}
@@ -108,6 +109,7 @@ good_variant name given (States args) h (inl bad) = takes_no_image (codes "state
 good_variant name given (States args) h (inr bad) = variant_asked given args.search.variant h.1.search.variant h.1.search.no_algorithm bad.1
 good_variant name given (StatesAlgorithm args) h (inl bad) = takes_no_image (codes "states") name h.0 refl refl bad.0
 good_variant name given (StatesAlgorithm args) h (inr bad) = no_both (first_of (codes "variant") given) h.1.search.no_variant bad.1.0
+good_variant name given (Cost args) h bad = neither (codes "cost") name given h.0 refl refl refl refl refl refl bad
 good_variant name given (Run args) h bad = neither (codes "run") name given h.0 refl refl refl refl refl refl bad
 good_variant name given (Judge file) h bad = neither (codes "judge") name given h.0 refl refl refl refl refl refl bad
 good_variant name given (Step file) h bad = neither (codes "step") name given h.0 refl refl refl refl refl refl bad
@@ -115,11 +117,12 @@ good_variant name given (StepAlgorithm args) h bad = neither (codes "step") name
 good_variant name given (Explain entry) h bad = neither (codes "explain") name given h.0 refl refl refl refl refl refl bad
 
 sizeless : (a name : Text) (given : Given) → name ≡ a → bytes_eq a (codes "run") ≡ false → bytes_eq a (codes "hunt") ≡ false → bytes_eq a (codes "explore") ≡ false
-    → bytes_eq a (codes "states") ≡ false → IsOutOfRange name given → ⊥
-sizeless a name given is run hunt explore states (inl bad) = other_name a (codes "run") name is run bad.0
-sizeless a name given is run hunt explore states (inr (inl bad)) = other_name a (codes "hunt") name is hunt bad.0
-sizeless a name given is run hunt explore states (inr (inr (inl bad))) = other_name a (codes "explore") name is explore bad.0
-sizeless a name given is run hunt explore states (inr (inr (inr bad))) = other_name a (codes "states") name is states bad.0
+    → bytes_eq a (codes "states") ≡ false → bytes_eq a (codes "cost") ≡ false → IsOutOfRange name given → ⊥
+sizeless a name given is run hunt explore states cost (inl bad) = other_name a (codes "run") name is run bad.0
+sizeless a name given is run hunt explore states cost (inr (inl bad)) = other_name a (codes "hunt") name is hunt bad.0
+sizeless a name given is run hunt explore states cost (inr (inr (inl bad))) = other_name a (codes "explore") name is explore bad.0
+sizeless a name given is run hunt explore states cost (inr (inr (inr (inl bad)))) = other_name a (codes "states") name is states bad.0
+sizeless a name given is run hunt explore states cost (inr (inr (inr (inr bad)))) = other_name a (codes "cost") name is cost bad.0
 
 good_hunt : (given : Given) (args : HuntArgs) → IsHunt given args → IsHuntSize args.rounds args.steps → IsBadHunt given ⊎ IsBadAlgorithmHunt given → ⊥
 good_hunt given args h sized (inl (some, inl size)) = size (subst₂ IsHuntSize h.rounds h.steps sized)
@@ -156,47 +159,63 @@ good_algorithm_search given args h (inr (of_algorithm, inl bad)) = false≢true 
 good_algorithm_search given args h (inr (of_algorithm, inr (inl stuck))) = no_both (first_of (codes "moves") given) (h.unbounded (h.stuck ∙ stuck.0)) stuck.1
 good_algorithm_search given args h (inr (of_algorithm, inr (inr starving))) = good_cycles given args.starving h.starving h.no_bound starving
 
+good_cost : (given : Given) (args : CostArgs) → AsksForCost given args → IsBadCost given → ⊥
+good_cost given args h (is, inl bad) = good_algorithm_search given args.search h.search (inr bad)
+good_cost given args h (is, inr lacks) = lacks args.model h.model
+
 good_size : (name : Text) (given : Given) (command : Command) → IsInRanges command → IsCommand name given command → IsOutOfRange name given → ⊥
 good_size name given (Run args) sized h (inl bad) = bad.1 (subst RunFits h.1 sized)
 good_size name given (Run args) sized h (inr (inl bad)) = other_name (codes "run") (codes "hunt") name h.0 refl bad.0
 good_size name given (Run args) sized h (inr (inr (inl bad))) = other_name (codes "run") (codes "explore") name h.0 refl bad.0
-good_size name given (Run args) sized h (inr (inr (inr bad))) = other_name (codes "run") (codes "states") name h.0 refl bad.0
+good_size name given (Run args) sized h (inr (inr (inr (inl bad)))) = other_name (codes "run") (codes "states") name h.0 refl bad.0
+good_size name given (Run args) sized h (inr (inr (inr (inr bad)))) = other_name (codes "run") (codes "cost") name h.0 refl bad.0
 good_size name given (Hunt args) sized h (inl bad) = other_name (codes "hunt") (codes "run") name h.0 refl bad.0
 good_size name given (Hunt args) sized h (inr (inl bad)) = good_hunt given args h.1 sized bad.1
 good_size name given (Hunt args) sized h (inr (inr (inl bad))) = other_name (codes "hunt") (codes "explore") name h.0 refl bad.0
-good_size name given (Hunt args) sized h (inr (inr (inr bad))) = other_name (codes "hunt") (codes "states") name h.0 refl bad.0
+good_size name given (Hunt args) sized h (inr (inr (inr (inl bad)))) = other_name (codes "hunt") (codes "states") name h.0 refl bad.0
+good_size name given (Hunt args) sized h (inr (inr (inr (inr bad)))) = other_name (codes "hunt") (codes "cost") name h.0 refl bad.0
 good_size name given (HuntAlgorithm args) sized h (inl bad) = other_name (codes "hunt") (codes "run") name h.0 refl bad.0
 good_size name given (HuntAlgorithm args) sized h (inr (inl bad)) = good_algorithm_hunt given args h.1 sized bad.1
 good_size name given (HuntAlgorithm args) sized h (inr (inr (inl bad))) = other_name (codes "hunt") (codes "explore") name h.0 refl bad.0
-good_size name given (HuntAlgorithm args) sized h (inr (inr (inr bad))) = other_name (codes "hunt") (codes "states") name h.0 refl bad.0
+good_size name given (HuntAlgorithm args) sized h (inr (inr (inr (inl bad)))) = other_name (codes "hunt") (codes "states") name h.0 refl bad.0
+good_size name given (HuntAlgorithm args) sized h (inr (inr (inr (inr bad)))) = other_name (codes "hunt") (codes "cost") name h.0 refl bad.0
 good_size name given (Explore args) sized h (inl bad) = other_name (codes "explore") (codes "run") name h.0 refl bad.0
 good_size name given (Explore args) sized h (inr (inl bad)) = other_name (codes "explore") (codes "hunt") name h.0 refl bad.0
 good_size name given (Explore args) sized h (inr (inr (inl bad))) = good_search given args h.1 bad.1
-good_size name given (Explore args) sized h (inr (inr (inr bad))) = other_name (codes "explore") (codes "states") name h.0 refl bad.0
+good_size name given (Explore args) sized h (inr (inr (inr (inl bad)))) = other_name (codes "explore") (codes "states") name h.0 refl bad.0
+good_size name given (Explore args) sized h (inr (inr (inr (inr bad)))) = other_name (codes "explore") (codes "cost") name h.0 refl bad.0
 good_size name given (ExploreAlgorithm args) sized h (inl bad) = other_name (codes "explore") (codes "run") name h.0 refl bad.0
 good_size name given (ExploreAlgorithm args) sized h (inr (inl bad)) = other_name (codes "explore") (codes "hunt") name h.0 refl bad.0
 good_size name given (ExploreAlgorithm args) sized h (inr (inr (inl bad))) = good_algorithm_search given args h.1 bad.1
-good_size name given (ExploreAlgorithm args) sized h (inr (inr (inr bad))) = other_name (codes "explore") (codes "states") name h.0 refl bad.0
+good_size name given (ExploreAlgorithm args) sized h (inr (inr (inr (inl bad)))) = other_name (codes "explore") (codes "states") name h.0 refl bad.0
+good_size name given (ExploreAlgorithm args) sized h (inr (inr (inr (inr bad)))) = other_name (codes "explore") (codes "cost") name h.0 refl bad.0
 good_size name given (States args) sized h (inl bad) = other_name (codes "states") (codes "run") name h.0 refl bad.0
 good_size name given (States args) sized h (inr (inl bad)) = other_name (codes "states") (codes "hunt") name h.0 refl bad.0
 good_size name given (States args) sized h (inr (inr (inl bad))) = other_name (codes "states") (codes "explore") name h.0 refl bad.0
-good_size name given (States args) sized h (inr (inr (inr (is, inl bad)))) = good_search given args.search h.1.search bad
-good_size name given (States args) sized h (inr (inr (inr (is, inr bad)))) = bad.1 args.stream.tool h.1.stream.tool
+good_size name given (States args) sized h (inr (inr (inr (inl (is, inl bad))))) = good_search given args.search h.1.search bad
+good_size name given (States args) sized h (inr (inr (inr (inl (is, inr bad))))) = bad.1 args.stream.tool h.1.stream.tool
+good_size name given (States args) sized h (inr (inr (inr (inr bad)))) = other_name (codes "states") (codes "cost") name h.0 refl bad.0
 good_size name given (StatesAlgorithm args) sized h (inl bad) = other_name (codes "states") (codes "run") name h.0 refl bad.0
 good_size name given (StatesAlgorithm args) sized h (inr (inl bad)) = other_name (codes "states") (codes "hunt") name h.0 refl bad.0
 good_size name given (StatesAlgorithm args) sized h (inr (inr (inl bad))) = other_name (codes "states") (codes "explore") name h.0 refl bad.0
-good_size name given (StatesAlgorithm args) sized h (inr (inr (inr (is, inl bad)))) = good_algorithm_search given args.search h.1.search bad
-good_size name given (StatesAlgorithm args) sized h (inr (inr (inr (is, inr bad)))) = bad.1 args.stream.tool h.1.stream.tool
-good_size name given (Replay args) sized h bad = sizeless (codes "replay") name given h.0 refl refl refl refl bad
-good_size name given (ReplayAlgorithm args) sized h bad = sizeless (codes "replay") name given h.0 refl refl refl refl bad
-good_size name given (Judge file) sized h bad = sizeless (codes "judge") name given h.0 refl refl refl refl bad
-good_size name given (Draw args) sized h bad = sizeless (codes "draw") name given h.0 refl refl refl refl bad
-good_size name given (DrawAlgorithm args) sized h bad = sizeless (codes "draw") name given h.0 refl refl refl refl bad
-good_size name given (Shrink args) sized h bad = sizeless (codes "shrink") name given h.0 refl refl refl refl bad
-good_size name given (ShrinkAlgorithm args) sized h bad = sizeless (codes "shrink") name given h.0 refl refl refl refl bad
-good_size name given (Step file) sized h bad = sizeless (codes "step") name given h.0 refl refl refl refl bad
-good_size name given (StepAlgorithm args) sized h bad = sizeless (codes "step") name given h.0 refl refl refl refl bad
-good_size name given (Explain entry) sized h bad = sizeless (codes "explain") name given h.0 refl refl refl refl bad
+good_size name given (StatesAlgorithm args) sized h (inr (inr (inr (inl (is, inl bad))))) = good_algorithm_search given args.search h.1.search bad
+good_size name given (StatesAlgorithm args) sized h (inr (inr (inr (inl (is, inr bad))))) = bad.1 args.stream.tool h.1.stream.tool
+good_size name given (StatesAlgorithm args) sized h (inr (inr (inr (inr bad)))) = other_name (codes "states") (codes "cost") name h.0 refl bad.0
+good_size name given (Cost args) sized h (inl bad) = other_name (codes "cost") (codes "run") name h.0 refl bad.0
+good_size name given (Cost args) sized h (inr (inl bad)) = other_name (codes "cost") (codes "hunt") name h.0 refl bad.0
+good_size name given (Cost args) sized h (inr (inr (inl bad))) = other_name (codes "cost") (codes "explore") name h.0 refl bad.0
+good_size name given (Cost args) sized h (inr (inr (inr (inl bad)))) = other_name (codes "cost") (codes "states") name h.0 refl bad.0
+good_size name given (Cost args) sized h (inr (inr (inr (inr bad)))) = good_cost given args h.1 bad.1
+good_size name given (Replay args) sized h bad = sizeless (codes "replay") name given h.0 refl refl refl refl refl bad
+good_size name given (ReplayAlgorithm args) sized h bad = sizeless (codes "replay") name given h.0 refl refl refl refl refl bad
+good_size name given (Judge file) sized h bad = sizeless (codes "judge") name given h.0 refl refl refl refl refl bad
+good_size name given (Draw args) sized h bad = sizeless (codes "draw") name given h.0 refl refl refl refl refl bad
+good_size name given (DrawAlgorithm args) sized h bad = sizeless (codes "draw") name given h.0 refl refl refl refl refl bad
+good_size name given (Shrink args) sized h bad = sizeless (codes "shrink") name given h.0 refl refl refl refl refl bad
+good_size name given (ShrinkAlgorithm args) sized h bad = sizeless (codes "shrink") name given h.0 refl refl refl refl refl bad
+good_size name given (Step file) sized h bad = sizeless (codes "step") name given h.0 refl refl refl refl refl bad
+good_size name given (StepAlgorithm args) sized h bad = sizeless (codes "step") name given h.0 refl refl refl refl refl bad
+good_size name given (Explain entry) sized h bad = sizeless (codes "explain") name given h.0 refl refl refl refl refl bad
 
 -- ---- the words
 
@@ -208,31 +227,40 @@ not_drawn name given (none, inr (inr (inr (is, lacks)))) takes = takes_no_image 
 
 worded : (name : Text) (given : Given) → HasBadWords name given → HasBadVariant name given → ⊥
 worded name given (inl entry) bad = neither (codes "explain") name given entry.0 refl refl refl refl refl refl bad
-worded name given (inr lock) (inl bad) = not_drawn name given lock bad.0
-worded name given (inr lock) (inr bad) = no_both (first_of (codes "variant") given) lock.0 bad.1.0
+worded name given (inr (inl lock)) (inl bad) = not_drawn name given lock bad.0
+worded name given (inr (inl lock)) (inr bad) = no_both (first_of (codes "variant") given) lock.0 bad.1.0
+worded name given (inr (inr lacks)) bad = neither (codes "cost") name given lacks.0 refl refl refl refl refl refl bad
 
 without_range : (name : Text) (given : Given) → HasNoLock name given → IsOutOfRange name given → ⊥
 without_range name given (none, inl (is, lacks)) (inl bad) = other_name (codes "explore") (codes "run") name is refl bad.0
 without_range name given (none, inl (is, lacks)) (inr (inl bad)) = other_name (codes "explore") (codes "hunt") name is refl bad.0
 without_range name given (none, inl (is, lacks)) (inr (inr (inl (too, inl bad)))) = no_both (first_of (codes "variant") given) none bad.0
 without_range name given (none, inl (is, lacks)) (inr (inr (inl (too, inr bad)))) = lacks bad.0
-without_range name given (none, inl (is, lacks)) (inr (inr (inr bad))) = other_name (codes "explore") (codes "states") name is refl bad.0
+without_range name given (none, inl (is, lacks)) (inr (inr (inr (inl bad)))) = other_name (codes "explore") (codes "states") name is refl bad.0
+without_range name given (none, inl (is, lacks)) (inr (inr (inr (inr bad)))) = other_name (codes "explore") (codes "cost") name is refl bad.0
 without_range name given (none, inr (inl (is, lacks))) (inl bad) = other_name (codes "hunt") (codes "run") name is refl bad.0
 without_range name given (none, inr (inl (is, lacks))) (inr (inl (too, inl bad))) = no_both (first_of (codes "variant") given) none bad.0
 without_range name given (none, inr (inl (is, lacks))) (inr (inl (too, inr bad))) = no_both (first_of (codes "algorithm") given) lacks bad.0
 without_range name given (none, inr (inl (is, lacks))) (inr (inr (inl bad))) = other_name (codes "hunt") (codes "explore") name is refl bad.0
-without_range name given (none, inr (inl (is, lacks))) (inr (inr (inr bad))) = other_name (codes "hunt") (codes "states") name is refl bad.0
-without_range name given (none, inr (inr (inl (is, lacks)))) bad = sizeless (codes "shrink") name given is refl refl refl refl bad
+without_range name given (none, inr (inl (is, lacks))) (inr (inr (inr (inl bad)))) = other_name (codes "hunt") (codes "states") name is refl bad.0
+without_range name given (none, inr (inl (is, lacks))) (inr (inr (inr (inr bad)))) = other_name (codes "hunt") (codes "cost") name is refl bad.0
+without_range name given (none, inr (inr (inl (is, lacks)))) bad = sizeless (codes "shrink") name given is refl refl refl refl refl bad
 without_range name given (none, inr (inr (inr (is, lacks)))) (inl bad) = other_name (codes "states") (codes "run") name is refl bad.0
 without_range name given (none, inr (inr (inr (is, lacks)))) (inr (inl bad)) = other_name (codes "states") (codes "hunt") name is refl bad.0
 without_range name given (none, inr (inr (inr (is, lacks)))) (inr (inr (inl bad))) = other_name (codes "states") (codes "explore") name is refl bad.0
-without_range name given (none, inr (inr (inr (is, lacks)))) (inr (inr (inr (too, inl (inl bad))))) = no_both (first_of (codes "variant") given) none bad.0
-without_range name given (none, inr (inr (inr (is, lacks)))) (inr (inr (inr (too, inl (inr bad))))) = lacks bad.0
-without_range name given (none, inr (inr (inr (is, lacks)))) (inr (inr (inr (too, inr bad)))) = lacks (bad.0 none)
+without_range name given (none, inr (inr (inr (is, lacks)))) (inr (inr (inr (inl (too, inl (inl bad)))))) = no_both (first_of (codes "variant") given) none bad.0
+without_range name given (none, inr (inr (inr (is, lacks)))) (inr (inr (inr (inl (too, inl (inr bad)))))) = lacks bad.0
+without_range name given (none, inr (inr (inr (is, lacks)))) (inr (inr (inr (inl (too, inr bad))))) = lacks (bad.0 none)
+without_range name given (none, inr (inr (inr (is, lacks)))) (inr (inr (inr (inr bad)))) = other_name (codes "states") (codes "cost") name is refl bad.0
 
 ranged : (name : Text) (given : Given) → HasBadWords name given → IsOutOfRange name given → ⊥
-ranged name given (inl entry) bad = sizeless (codes "explain") name given entry.0 refl refl refl refl bad
-ranged name given (inr lock) bad = without_range name given lock bad
+ranged name given (inl entry) bad = sizeless (codes "explain") name given entry.0 refl refl refl refl refl bad
+ranged name given (inr (inl lock)) bad = without_range name given lock bad
+ranged name given (inr (inr lacks)) (inl bad) = other_name (codes "cost") (codes "run") name lacks.0 refl bad.0
+ranged name given (inr (inr lacks)) (inr (inl bad)) = other_name (codes "cost") (codes "hunt") name lacks.0 refl bad.0
+ranged name given (inr (inr lacks)) (inr (inr (inl bad))) = other_name (codes "cost") (codes "explore") name lacks.0 refl bad.0
+ranged name given (inr (inr lacks)) (inr (inr (inr (inl bad)))) = other_name (codes "cost") (codes "states") name lacks.0 refl bad.0
+ranged name given (inr (inr lacks)) (inr (inr (inr (inr bad)))) = lacks.1 bad.1.0
 
 both_of : (words : List Text) (P Q : Text → Given → Type 0) → TakesWords words P → TakesWords words Q → (name : Text) × (given : Given) × P name given × Q name given
 both_of words P Q p q = go (subcommand_of rmelab words) p.1 q.1
@@ -285,7 +313,7 @@ no_image_of a given replay draw good (inr bad) = good bad.1
 
 pub explore_refused : (given : Given) (fault : WordsFault) → IsFaultOfSearch given fault → IsFault (codes "explore") given fault
 explore_refused given (Help text) h = absurd h
-explore_refused given (Refused text) h = inr (h.0, inl (refl, h.1))
+explore_refused given (Refused text) h = inr (inl (h.0, inl (refl, h.1)))
 explore_refused given BadVariant h = inr (inr (inl refl), h)
 explore_refused given BadSize h = (no_image_of (codes "explore") given refl refl h.0, inr (inr (inl (refl, h.1))))
 explore_refused given Unreadable h = absurd h
@@ -293,9 +321,9 @@ explore_refused given OutOfMemory h = tt
 
 pub states_refused : (given : Given) (fault : WordsFault) → IsFaultOfSearch given fault → IsFault (codes "states") given fault
 states_refused given (Help text) h = absurd h
-states_refused given (Refused text) h = inr (h.0, inr (inr (inr (refl, h.1))))
+states_refused given (Refused text) h = inr (inl (h.0, inr (inr (inr (refl, h.1)))))
 states_refused given BadVariant h = inr (inr (inr (inr refl)), h)
-states_refused given BadSize h = (no_image_of (codes "states") given refl refl h.0, inr (inr (inr (refl, inl h.1))))
+states_refused given BadSize h = (no_image_of (codes "states") given refl refl h.0, inr (inr (inr (inl (refl, inl h.1)))))
 states_refused given Unreadable h = absurd h
 states_refused given OutOfMemory h = tt
 
@@ -316,7 +344,7 @@ pub stream_refused : (given : Given) (args : ExploreArgs) (fault : WordsFault) �
     → IsFault (codes "states") given fault
 stream_refused given args BadSize h tool = (
   no_image_of (codes "states") given refl refl (variant_asked given args.variant h.variant h.no_algorithm),
-  inr (inr (inr (refl, inr ((λ none. absurd (none_asked args.variant (first_of (codes "variant") given) h.variant none)), tool)))),
+  inr (inr (inr (inl (refl, inr ((λ none. absurd (none_asked args.variant (first_of (codes "variant") given) h.variant none)), tool))))),
 )
 stream_refused given args OutOfMemory h tool = tt
 stream_refused given args (Help text) h tool = cc
@@ -328,10 +356,31 @@ pub algorithm_stream_refused : (given : Given) (args : AlgorithmExploreArgs) (fa
     → IsFault (codes "states") given fault
 algorithm_stream_refused given args BadSize h tool = (
   no_image_of (codes "states") given refl refl (λ bad. no_both (first_of (codes "variant") given) h.no_variant bad.0),
-  inr (inr (inr (refl, inr ((λ none. h.search), tool)))),
+  inr (inr (inr (inl (refl, inr ((λ none. h.search), tool))))),
 )
 algorithm_stream_refused given args OutOfMemory h tool = tt
 algorithm_stream_refused given args (Help text) h tool = cc
 algorithm_stream_refused given args (Refused text) h tool = cc
 algorithm_stream_refused given args BadVariant h tool = cc
 algorithm_stream_refused given args Unreadable h tool = cc
+
+-- ---- the search of `cost`
+
+no_bad_variant : (given : Given) → HasBadVariant (codes "cost") given → ⊥
+no_bad_variant given bad = neither (codes "cost") (codes "cost") given refl refl refl refl refl refl refl bad
+
+bad_algorithm : (given : Given) → IsNone (first_of (codes "variant") given) → IsBadSearch given ⊎ IsBadAlgorithmSearch given → IsBadAlgorithmSearch given
+bad_algorithm given none (inl bad) = absurd (no_both (first_of (codes "variant") given) none bad.0)
+bad_algorithm given none (inr bad) = bad
+
+pub cost_refused : (given : Given) (fault : WordsFault) → IsNone (first_of (codes "variant") given) → IsFaultOfSearch given fault → IsFault (codes "cost") given fault
+cost_refused given (Help text) none h = absurd h
+cost_refused given (Refused text) none h = inr (inr (refl, λ is. h.1 is.search))
+cost_refused given BadVariant none h = absurd (no_both (first_of (codes "variant") given) none h.0)
+cost_refused given BadSize none h =
+    let bad = bad_algorithm given none h.1 in (no_bad_variant given, inr (inr (inr (inr (refl, (record { search = bad.0; no_variant = none }, inl bad))))))
+cost_refused given Unreadable none h = absurd h
+cost_refused given OutOfMemory none h = tt
+
+pub model_refused : (given : Given) (args : AlgorithmExploreArgs) → IsAlgorithmExplore given args → AsksForNoModel given → IsFault (codes "cost") given BadSize
+model_refused given args h lacks = (no_bad_variant given, inr (inr (inr (inr (refl, (record { search = h.search; no_variant = h.no_variant }, inr lacks))))))

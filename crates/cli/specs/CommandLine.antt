@@ -97,6 +97,11 @@ explore = part (codes "explore") (
     ∷ number (codes "moves") ∷ number (codes "states") ∷ number (codes "limit") ∷ number (codes "cap") ∷ number (codes "width")
     ∷ flag (codes "stuck") ∷ starving ∷ flag (codes "all-variables") ∷ number (codes "jobs") ∷ [])
 
+abbrev pub cost : Shape
+cost = part (codes "cost") (
+    required_rule algorithm ∷ required_rule (option (codes "model")) ∷ flag (codes "super-passages") ∷ required_rule (number (codes "procs"))
+    ∷ option (codes "calls") ∷ number (codes "crashes") ∷ number (codes "states") ∷ number (codes "limit") ∷ [])
+
 abbrev pub states : Shape
 states = part (codes "states") (
     required_rule (word (codes "TOOL")) ∷ variant ∷ algorithm ∷ required_rule (number (codes "procs")) ∷ option (codes "calls")
@@ -127,6 +132,7 @@ shape_of_part parts.Replay = replay
 shape_of_part parts.Run = run
 shape_of_part parts.Hunt = hunt
 shape_of_part parts.Explore = explore
+shape_of_part parts.Cost = cost
 shape_of_part parts.States = states
 shape_of_part parts.Judge = judge
 shape_of_part parts.Draw = draw
@@ -142,7 +148,7 @@ with_subcommands app (shape ∷ shapes) = with_subcommands (with_subcommand app 
 abbrev pub rmelab : App
 rmelab = record {
   top = record head { is_leaf = false };
-  subs = replay ∷ run ∷ hunt ∷ explore ∷ states ∷ judge ∷ draw ∷ shrink ∷ step ∷ explain ∷ [];
+  subs = replay ∷ run ∷ hunt ∷ explore ∷ cost ∷ states ∷ judge ∷ draw ∷ shrink ∷ step ∷ explain ∷ [];
 }
 
 -- the parser reads this command line, and no argument of a command is one of the others too

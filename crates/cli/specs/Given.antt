@@ -13,6 +13,10 @@ use Rattle.cli.specs.declared.arguments.args.Alphabet.{Alphabet}
 use Rattle.cli.specs.declared.arguments.args.AlgorithmCalls.{AlgorithmCalls}
 use Rattle.cli.specs.declared.arguments.args.Cycles.{Cycles}
 use Rattle.cli.specs.declared.arguments.args.Cycles.TheVariants.{Nobody, Any}
+use Rattle.algorithms.specs.declared.remote_references.memory_model.MemoryModel.{MemoryModel}
+use Rattle.algorithms.specs.declared.remote_references.memory_model.MemoryModel.TheVariants.{Distributed, WriteThrough, WriteBack}
+use Rattle.algorithms.specs.declared.remote_references.memory_model.PassageKind.{PassageKind}
+use Rattle.algorithms.specs.declared.remote_references.memory_model.PassageKind.TheVariants.{Passage, SuperPassage}
 use Rattle.cli.specs.declared.arguments.args.StatesTool.{StatesTool}
 use Rattle.cli.specs.declared.arguments.args.StatesTool.TheVariants.{First, Expand, Lead, Check, Walk}
 
@@ -77,6 +81,23 @@ AsksForTool given tool = Some (word_of_tool tool) ≡ first_of (codes "TOOL") gi
 -- there is no such tool
 abbrev pub AsksForNoTool : Given → Type 0
 AsksForNoTool given = (tool : StatesTool) → AsksForTool given tool → ⊥
+
+abbrev pub word_of_model : MemoryModel → Text
+word_of_model Distributed = codes "dsm"
+word_of_model WriteThrough = codes "write-through"
+word_of_model WriteBack = codes "write-back"
+
+-- the model is the one that is asked for
+abbrev pub AsksForModel : Given → MemoryModel → Type 0
+AsksForModel given model = Some (word_of_model model) ≡ first_of (codes "model") given
+
+-- there is no such model
+abbrev pub AsksForNoModel : Given → Type 0
+AsksForNoModel given = (model : MemoryModel) → AsksForModel given model → ⊥
+
+-- whether passages or super-passages are asked for
+abbrev pub kind_asked : Given → PassageKind
+kind_asked given = if is_set (codes "super-passages") given then SuperPassage else Passage
 
 -- the names of a list that has commas between them
 abbrev pub names_in : Text → List Text

@@ -10,7 +10,7 @@ use Rattle.clap.specs.declared.error.kind.ErrorKind.TheVariants as kinds
 use Rattle.crashlab.specs.declared.variants.variant.Variant.{Variant}
 use Rattle.crashlab.specs.declared.variants.variant.Variant.TheVariants.{Right}
 use Rattle.cli.specs.declared.arguments.args.Command.{Command}
-use Rattle.cli.specs.declared.arguments.args.Command.TheVariants.{Replay, ReplayAlgorithm, Run, Hunt, HuntAlgorithm, Explore, ExploreAlgorithm, States, StatesAlgorithm, Judge, Draw, DrawAlgorithm, Shrink, ShrinkAlgorithm, Step, StepAlgorithm, Explain}
+use Rattle.cli.specs.declared.arguments.args.Command.TheVariants.{Replay, ReplayAlgorithm, Run, Hunt, HuntAlgorithm, Explore, ExploreAlgorithm, Cost, States, StatesAlgorithm, Judge, Draw, DrawAlgorithm, Shrink, ShrinkAlgorithm, Step, StepAlgorithm, Explain}
 use Rattle.cli.specs.declared.arguments.args.ReplayArgs.{ReplayArgs}
 use Rattle.cli.specs.declared.arguments.args.AlgorithmReplayArgs.{AlgorithmReplayArgs}
 use Rattle.cli.specs.declared.arguments.args.RunArgs.{RunArgs}
@@ -18,6 +18,7 @@ use Rattle.cli.specs.declared.arguments.args.HuntArgs.{HuntArgs}
 use Rattle.cli.specs.declared.arguments.args.AlgorithmHuntArgs.{AlgorithmHuntArgs}
 use Rattle.cli.specs.declared.arguments.args.ExploreArgs.{ExploreArgs}
 use Rattle.cli.specs.declared.arguments.args.AlgorithmExploreArgs.{AlgorithmExploreArgs}
+use Rattle.cli.specs.declared.arguments.args.CostArgs.{CostArgs}
 use Rattle.cli.specs.declared.arguments.args.StreamArgs.{StreamArgs}
 use Rattle.cli.specs.declared.arguments.args.StatesArgs.{StatesArgs}
 use Rattle.cli.specs.declared.arguments.args.AlgorithmStatesArgs.{AlgorithmStatesArgs}
@@ -31,7 +32,7 @@ use Rattle.cli.specs.declared.arguments.words.WordsFault.{WordsFault}
 use Rattle.cli.specs.declared.arguments.words.WordsFault.TheVariants.{Help, Refused, BadVariant, BadSize, Unreadable, OutOfMemory}
 use Rattle.cli.specs.declared.explain.dictionary_entry.DictionaryEntry.{DictionaryEntry}
 use Rattle.cli.specs.CommandLine.{rmelab}
-use Rattle.cli.specs.Given.{Given, AsksFor, AsksForNone, is_set, number_or, calls_of, alphabet_of, is_call, algorithm_calls_in, are_algorithm_calls, entry_named, AsksForCycles, AsksForNoCycles, AsksForTool, AsksForNoTool}
+use Rattle.cli.specs.Given.{Given, AsksFor, AsksForNone, is_set, number_or, calls_of, alphabet_of, is_call, algorithm_calls_in, are_algorithm_calls, entry_named, AsksForCycles, AsksForNoCycles, AsksForTool, AsksForNoTool, AsksForModel, AsksForNoModel, kind_asked}
 use Rattle.cli.specs.Names.{name_of}
 use Rattle.cli.specs.Sizes.{RunFits, IsHuntSize}
 
@@ -150,6 +151,17 @@ pub record IsAlgorithmExplore (given : Given) (args : AlgorithmExploreArgs) : Ty
   pub unbounded : args.stuck ≡ true → IsNone (first_of (codes "moves") given)
   pub no_bound : IsSome args.starving → IsNone (first_of (codes "moves") given)
 
+-- an algorithm alone is given to a search of costs, and no option that the search of one does not have
+pub record IsCostSearch (given : Given) : Type 0 where
+  pub search : IsAlgorithmSearch given
+  pub no_variant : IsNone (first_of (codes "variant") given)
+
+-- the schedules are those of the search that `explore` makes of the same options
+pub record AsksForCost (given : Given) (args : CostArgs) : Type 0 where
+  pub search : IsAlgorithmExplore given args.search
+  pub model : AsksForModel given args.model
+  pub kind : args.kind ≡ kind_asked given
+
 -- what is done with lines of states, and their form
 pub record IsStream (given : Given) (args : StreamArgs) : Type 0 where
   pub tool : AsksForTool given args.tool
@@ -210,6 +222,7 @@ IsCommand name given (Hunt args) = (name ≡ codes "hunt") × IsHunt given args
 IsCommand name given (HuntAlgorithm args) = (name ≡ codes "hunt") × IsAlgorithmHunt given args
 IsCommand name given (Explore args) = (name ≡ codes "explore") × IsExplore given args
 IsCommand name given (ExploreAlgorithm args) = (name ≡ codes "explore") × IsAlgorithmExplore given args
+IsCommand name given (Cost args) = (name ≡ codes "cost") × AsksForCost given args
 IsCommand name given (States args) = (name ≡ codes "states") × IsStates given args
 IsCommand name given (StatesAlgorithm args) = (name ≡ codes "states") × IsAlgorithmStates given args
 IsCommand name given (Judge args) = (name ≡ codes "judge") × IsJudge given args
@@ -271,6 +284,10 @@ IsBadAlgorithmSearch given =
 abbrev pub IsBadTool : Given → Type 0
 IsBadTool given = (IsNone (first_of (codes "variant") given) → IsAlgorithmSearch given) × AsksForNoTool given
 
+-- there is an algorithm to search, and a call is none of an algorithm, or there is no such model
+abbrev pub IsBadCost : Given → Type 0
+IsBadCost given = IsCostSearch given × (IsBadAlgorithmSearch given ⊎ AsksForNoModel given)
+
 -- a size of its worlds is given to a hunt
 abbrev pub HasWorldSize : Given → Type 0
 HasWorldSize given = IsSome (first_of (codes "procs") given) ⊎ IsSome (first_of (codes "limit") given)
@@ -289,7 +306,8 @@ IsOutOfRange name given =
     ((name ≡ codes "run") × (RunFits (run_of given) → ⊥))
     ⊎ (((name ≡ codes "hunt") × (IsBadHunt given ⊎ IsBadAlgorithmHunt given))
     ⊎ (((name ≡ codes "explore") × (IsBadSearch given ⊎ IsBadAlgorithmSearch given))
-    ⊎ ((name ≡ codes "states") × ((IsBadSearch given ⊎ IsBadAlgorithmSearch given) ⊎ IsBadTool given))))
+    ⊎ (((name ≡ codes "states") × ((IsBadSearch given ⊎ IsBadAlgorithmSearch given) ⊎ IsBadTool given))
+    ⊎ ((name ≡ codes "cost") × IsBadCost given))))
 
 -- the variant is good, and a size is bad
 abbrev pub HasBadSize : Text → Given → Type 0
@@ -308,9 +326,13 @@ HasNoLock name given = IsNone (first_of (codes "variant") given)
     ⊎ (((name ≡ codes "shrink") × IsNone (first_of (codes "algorithm") given))
     ⊎ ((name ≡ codes "states") × (IsAlgorithmSearch given → ⊥)))))
 
+-- there is no algorithm whose costs are asked for, or it is given an option that the command does not have for one
+abbrev pub HasNoAlgorithm : Text → Given → Type 0
+HasNoAlgorithm name given = (name ≡ codes "cost") × (IsCostSearch given → ⊥)
+
 -- words that `clap` takes are refused as it refuses words
 abbrev pub HasBadWords : Text → Given → Type 0
-HasBadWords name given = HasNoEntry name given ⊎ HasNoLock name given
+HasBadWords name given = HasNoEntry name given ⊎ (HasNoLock name given ⊎ HasNoAlgorithm name given)
 
 -- out of memory comes at any time
 abbrev pub IsFault : Text → Given → WordsFault → Type 0

@@ -2,6 +2,7 @@
 
 pub mod args;
 mod argument;
+mod cost_words;
 mod draw_words;
 mod explore_words;
 mod hunt_words;

@@ -1,3 +1,4 @@
+pub mod AlgorithmCosts
 pub mod AlgorithmExplores
 pub mod AlgorithmHunts
 pub mod AlgorithmPaths

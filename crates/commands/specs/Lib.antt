@@ -1,3 +1,4 @@
+pub mod AlgorithmCosts
 pub mod AlgorithmDraws
 pub mod AlgorithmExplores
 pub mod AlgorithmFaults

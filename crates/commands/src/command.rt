@@ -14,6 +14,7 @@ ghost use Rattle.commands.specs.Programs.{CarriesOut, IsReported};
 ghost use Rattle.commands.specs.Folders.{is_session};
 ghost use Rattle.commands.specs.Statuses.{status_after};
 
+use crate::algorithm_cost_command::algorithm_cost_command;
 use crate::algorithm_explore_command::algorithm_explore_command;
 use crate::algorithm_hunt_command::algorithm_hunt_command;
 use crate::explore_command::explore_command;
@@ -254,6 +255,7 @@ pub fn carry_out<T: Threads + Wait + Sync, F: Folder, S: Screen, R: Source, W: S
         Command::ExploreAlgorithm(args) => {
             algorithm_explore_command(rt, alloc, args, image, screen, w)
         }
+        Command::Cost(args) => algorithm_cost_command(alloc, args, image, screen, w),
         Command::States(args) => states_command(alloc, args, r, w),
         Command::StatesAlgorithm(args) => algorithm_states_command(alloc, args, image, r, w),
         Command::Run(args) => run_command(rt, alloc, args, w),

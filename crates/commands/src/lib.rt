@@ -3,6 +3,7 @@
 //! Main items: `run_program`, `command`, `Folder`.
 #![tactic(auto)]
 
+pub mod algorithm_cost_command;
 pub mod algorithm_explore_command;
 pub mod algorithm_fault;
 pub mod algorithm_hunt_command;

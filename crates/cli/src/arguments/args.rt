@@ -3,6 +3,7 @@
 ghost use Rattle.std.specs.Prelude.{◌≡◌, option_copied};
 
 use crate::explain::dictionary_entry::DictionaryEntry;
+use algorithms::{MemoryModel, PassageKind};
 use crashlab::Variant;
 
 /// `replay`: runs a schedule and prints its report.
@@ -163,6 +164,15 @@ pub struct AlgorithmExploreArgs {
     pub jobs: u64,
 }
 
+/// `cost`: looks for the schedule on which a passage of an algorithm has the most remote references.
+#[derive(Debug, Drop, PartialEq, Eq)]
+pub struct CostArgs {
+    /// The search whose schedules they are.
+    pub search: AlgorithmExploreArgs,
+    pub model: MemoryModel,
+    pub kind: PassageKind,
+}
+
 /// What `states` does with lines of states.
 #[derive(Clone, Copy, Debug, PartialEq, Eq)]
 pub enum StatesTool {
@@ -282,6 +292,7 @@ pub enum Command {
     HuntAlgorithm(AlgorithmHuntArgs),
     Explore(ExploreArgs),
     ExploreAlgorithm(AlgorithmExploreArgs),
+    Cost(CostArgs),
     States(StatesArgs),
     StatesAlgorithm(AlgorithmStatesArgs),
     Judge(JudgeArgs),
@@ -326,6 +337,7 @@ impl Command {
             Command::ReplayAlgorithm(args) => Some(&args.algorithm),
             Command::HuntAlgorithm(args) => Some(&args.algorithm),
             Command::ExploreAlgorithm(args) => Some(&args.algorithm),
+            Command::Cost(args) => Some(&args.search.algorithm),
             Command::StatesAlgorithm(args) => Some(&args.search.algorithm),
             Command::Draw(args) => args.image.as_ref(),
             Command::DrawAlgorithm(args) => Some(&args.algorithm),

@@ -1,7 +1,7 @@
 //! The command line for `clap`: its commands, their options and their help.
 
 ghost use Rattle.std.specs.Prelude.{map, IfOk};
-ghost use Rattle.cli.specs.CommandLine.{IsParser, app_of_shape, part, shape_of_part, with_subcommands, rule_of_argument, head, replay, run, hunt, explore, states, judge, draw, shrink, step, explain, rmelab};
+ghost use Rattle.cli.specs.CommandLine.{IsParser, app_of_shape, part, shape_of_part, with_subcommands, rule_of_argument, head, replay, run, hunt, explore, cost, states, judge, draw, shrink, step, explain, rmelab};
 
 use crate::arguments::argument::{Argument, ArgumentForm};
 use clap::Command as Parser;
@@ -9,7 +9,7 @@ use std::alloc::{AllocError, Global};
 
 const STATUSES: &str =
     "Exit status: 0 fine, 1 a verdict against, a schedule found, or a message twice or out of order, 2 a fault of the \
-input, 3 a fault of a device, of memory or of a member, or too many states in `explore`.";
+input, 3 a fault of a device, of memory or of a member, or too many states in `explore` or `cost`.";
 
 const REPLAY_HELP: &str =
     "In: a schedule: a header such as `rme 1 procs 2 limit 10 cap 1`, then lines such as `lock 0`, `step 0 5`, `crash \
@@ -50,6 +50,18 @@ error, if that is a terminal, the states, how many moves deep and the states a s
 works.\nExit status: 0 if nothing was found, 1 if a schedule was, 2 after a fault of the words or the algorithm, 3 \
 after one of a device or of memory, or if there are more states than --states.\n\nExample: rmelab explore --variant \
 no-look --procs 2";
+
+const COST_HELP: &str =
+    "In: the algorithm's text: docs/use/algorithms.md. All its schedules are tried whose moves are the start of a call \
+of --calls, one step, or a crash, of which there are at most --crashes. A passage costs each access of its process \
+that is remote in the model: docs/dev/texts.md.\nOut: a schedule that reaches the greatest cost, and the line \
+`process P passage cost K`; or, if none is the greatest, a schedule and the line `process P passage cost unbounded \
+cycle K`: its last K moves can be made again and again, and cost something each time. With --super-passages the line \
+has `super-passage` in place of `passage`. Nothing is said of a greater size, limit or number of crashes.\nShown: on \
+standard error, if that is a terminal, the states, how many moves deep and the states a second, once a second while it \
+works.\nExit status: 0 if a cost is the greatest, 1 if none is, 2 after a fault of the words or the algorithm, 3 after \
+one of a device or of memory, or if there are more states than --states.\n\nExample: rmelab cost --algorithm \
+examples/algorithms/mcs.lock --model write-back --procs 2";
 
 const STATES_HELP: &str =
     "In: nothing for first; else texts of states: a header and then a line for each state, as first writes them; with \
@@ -233,6 +245,28 @@ fn explore<'a>(alloc: Global) -> Result<Parser<'a>, AllocError>
     command(alloc, "explore", about, EXPLORE_HELP, &arguments)
 }
 
+/// The parser of `cost`, with its help.
+fn cost<'a>(alloc: Global) -> Result<Parser<'a>, AllocError>
+    ensures { IfOk result (IsParser (app_of_shape cost)) }
+{
+    let about = "Looks for the greatest number of remote references of a passage of an algorithm";
+    let calls = "The calls that are started, as for `explore`";
+    let arguments = [
+        Argument::algorithm().as_required(),
+        Argument::text("model", "M", "dsm, write-through or write-back").as_required(),
+        Argument::flag(
+            "super-passages",
+            "Count in super-passages, which a crash does not end",
+        ),
+        Argument::number("procs", "N", "1 to 64 processes").as_required(),
+        Argument::text("calls", "LIST", calls),
+        Argument::number("crashes", "C", "At most C crashes; 0 without it"),
+        Argument::number("states", "S", "At most S states; 10000000 without it"),
+        Argument::number("limit", "L", "Numbers up to L; 4 without it"),
+    ];
+    command(alloc, "cost", about, COST_HELP, &arguments)
+}
+
 /// The parser of `states`, with its help.
 fn states<'a>(alloc: Global) -> Result<Parser<'a>, AllocError>
     ensures { IfOk result (IsParser (app_of_shape states)) }
@@ -356,6 +390,7 @@ enum ParserPart {
     Run,
     Hunt,
     Explore,
+    Cost,
     States,
     Judge,
     Draw,
@@ -365,11 +400,12 @@ enum ParserPart {
 }
 
 /// The commands, as the help lists them.
-const PARTS: [ParserPart; 10] = [
+const PARTS: [ParserPart; 11] = [
     ParserPart::Replay,
     ParserPart::Run,
     ParserPart::Hunt,
     ParserPart::Explore,
+    ParserPart::Cost,
     ParserPart::States,
     ParserPart::Judge,
     ParserPart::Draw,
@@ -388,6 +424,7 @@ impl ParserPart {
             ParserPart::Run => run(alloc),
             ParserPart::Hunt => hunt(alloc),
             ParserPart::Explore => explore(alloc),
+            ParserPart::Cost => cost(alloc),
             ParserPart::States => states(alloc),
             ParserPart::Judge => judge(alloc),
             ParserPart::Draw => draw(alloc),

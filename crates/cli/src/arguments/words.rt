@@ -11,6 +11,7 @@ ghost use Rattle.cli.specs.ReadWords.{HasBadVariant, HasBadSize, IsCommand, Read
 ghost use Rattle.cli.specs.Sizes.{IsInRanges, RunFits};
 
 use crate::arguments::args::{Command, JudgeArgs, RunArgs};
+use crate::arguments::cost_words::cost_words;
 use crate::arguments::draw_words::draw_words;
 use crate::arguments::explore_words::explore_words;
 use crate::arguments::hunt_words::hunt_words;
@@ -35,8 +36,8 @@ pub enum WordsFault {
     #[error("{text}")]
     Help { text: String },
     /// The error text of `clap`, that the words name no entry, that an option is beside `--algorithm` which the command does not
-    /// have there, or that `explore`, `states`, `hunt` or `shrink` has neither a variant nor an algorithm. It is printed to
-    /// standard error; the exit status is 2.
+    /// have there, that `explore`, `states`, `hunt` or `shrink` has neither a variant nor an algorithm, or that `cost` has no
+    /// algorithm. It is printed to standard error; the exit status is 2.
     #[error("{text}")]
     Refused { text: String },
     /// There is no such variant, it isn't `right` and an image is given, or an algorithm is given beside a variant, an image or a
@@ -44,8 +45,8 @@ pub enum WordsFault {
     #[error("bad variant")]
     BadVariant,
     /// A number of `run` or `hunt` is outside its range, `--procs` or `--limit` of `hunt` is beside a variant, a call of
-    /// `explore` or `states` is none, or none of an algorithm, `--stuck` is beside `--moves`, or `states` has no such tool; the
-    /// exit status is 2.
+    /// `explore`, `cost` or `states` is none, or none of an algorithm, `--stuck` is beside `--moves`, `states` has no such tool,
+    /// or `cost` no such model; the exit status is 2.
     #[error("bad size")]
     BadSize,
     /// A word isn't UTF-8 text.
@@ -273,6 +274,7 @@ fn command_of(alloc: Global, name: &str, matches: &ArgMatches<'_>) -> Result<Com
         "run" => run_words(matches),
         "hunt" => hunt_words(alloc, matches),
         "explore" => explore_words(alloc, matches),
+        "cost" => cost_words(alloc, matches),
         "states" => states_words(alloc, matches),
         "draw" => draw_words(alloc, matches),
         "shrink" => shrink_words(alloc, matches),
@@ -312,8 +314,8 @@ fn fault_of_error(alloc: Global, error: &Error) -> Result<WordsFault, AllocError
 
 /// Reads the words of a command line. The first word is the program's name. A refusal by `clap` is found first, then a bad
 /// variant, then a bad size. Words of `explain` that name no entry are refused in the same way as by `clap`; so are options beside
-/// `--algorithm` that the command does not have there, before a bad size, and `explore`, `states`, `hunt` or `shrink` with nothing
-/// to run.
+/// `--algorithm` that the command does not have there, before a bad size, and `explore`, `states`, `hunt`, `shrink` or `cost` with
+/// nothing to run.
 pub fn read_words(alloc: Global, words: &[String]) -> Result<Command, WordsFault>
     ensures sized { IfOk result IsInRanges }
     ensures command { IfOk result (λ command. TakesWords (texts_of words.now) (λ name given. IsCommand name given command)) }

@@ -23,7 +23,7 @@ pub enum DictionaryEntry {
     AlgorithmRefused(AlgorithmRefused),
     /// A rule of an image.
     Rule(Rule),
-    /// A fault that a judge finds.
+    /// A fault for which a verdict is against a run.
     Against(Fault),
     /// An answer of a call.
     Answer(Answer),
@@ -34,7 +34,7 @@ pub enum DictionaryEntry {
 }
 
 /// All entries that can be explained: one for each name.
-pub const ENTRIES: [DictionaryEntry; 95] = [
+pub const ENTRIES: [DictionaryEntry; 98] = [
     DictionaryEntry::Fault(LineFault::NoHeader),
     DictionaryEntry::Fault(LineFault::BadWord),
     DictionaryEntry::Fault(LineFault::BadNumber),
@@ -76,6 +76,9 @@ pub const ENTRIES: [DictionaryEntry; 95] = [
     DictionaryEntry::Against(Fault::NotInside),
     DictionaryEntry::Against(Fault::MailOrder),
     DictionaryEntry::Against(Fault::AfterClose),
+    DictionaryEntry::Against(Fault::LongExit),
+    DictionaryEntry::Against(Fault::LongRecovery),
+    DictionaryEntry::Against(Fault::LongDoorway),
     DictionaryEntry::Answer(Answer::Clean),
     DictionaryEntry::Answer(Answer::OwnerDied),
     DictionaryEntry::Answer(Answer::NumbersSpent),

@@ -93,6 +93,18 @@ the next one, there is no place left, or the lock is ruined.";
 const AFTER_CLOSE: &str =
     "The mailbox was closed before. After a close no message is committed, and the mailbox is not closed again.";
 
+const LONG_EXIT: &str =
+    "A process takes more own steps in a call of unlock than the text promises by `exit within`. The exit is not bounded as \
+promised; a step that waits for another process counts too.";
+
+const LONG_RECOVERY: &str =
+    "A process that crashed inside takes more own steps of its lock before it enters again than the text promises by \
+`recovery within`. The re-entry is not bounded as promised.";
+
+const LONG_DOORWAY: &str =
+    "A process takes more own steps of its lock before it is ready than the text promises by `doorway within`. The doorway \
+is not bounded as promised.";
+
 /// An entry for a fault of a schedule or a trace.
 fn of_text(name: &'static str, text: &'static str) -> Meaning
     ensures { result.name.now ≡ name.now }
@@ -123,6 +135,17 @@ fn of_judge(name: &'static str, text: &'static str) -> Meaning
         name,
         text,
         page: "docs/theory/judge.md, The judge table",
+    }
+}
+
+/// An entry for a promise of an algorithm's text that a run breaks.
+fn of_promise(name: &'static str, text: &'static str) -> Meaning
+    ensures { result.name.now ≡ name.now }
+{
+    Meaning {
+        name,
+        text,
+        page: "docs/use/algorithms.md, Meaning",
     }
 }
 
@@ -159,7 +182,7 @@ pub fn of_rule(rule: Rule) -> Meaning
     }
 }
 
-/// The meaning of the fault for which a judge refuses a deed.
+/// The meaning of the fault for which a verdict is against a run.
 #[tactic(auto, unfolding(crate::proofs::ExplainCommon::digits))]
 pub fn of_judge_fault(fault: Fault) -> Meaning
     ensures { result.name.now ≡ name_of (OfAgainst fault) }
@@ -172,5 +195,8 @@ pub fn of_judge_fault(fault: Fault) -> Meaning
         Fault::NotInside => of_judge("against 5", NOT_INSIDE),
         Fault::MailOrder => of_judge("against 6", MAIL_ORDER),
         Fault::AfterClose => of_judge("against 7", AFTER_CLOSE),
+        Fault::LongExit => of_promise("against 8", LONG_EXIT),
+        Fault::LongRecovery => of_promise("against 9", LONG_RECOVERY),
+        Fault::LongDoorway => of_promise("against 10", LONG_DOORWAY),
     }
 }

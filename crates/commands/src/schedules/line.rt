@@ -2,6 +2,7 @@
 
 ghost use Rattle.std.specs.Prelude.{◌≡◌, ◌+◌, ◌≤◌, ◌++◌, ◌∷◌, [], Some, codes, length};
 ghost use Rattle.std.specs.Fmt.{decimal};
+ghost use Rattle.commands.specs.AlgorithmCosts.{cost_line as cost_line_by, kind_text as kind_text_by, unbounded_line as unbounded_line_by};
 ghost use Rattle.commands.specs.AlgorithmExplores.{all_line_but};
 ghost use Rattle.commands.specs.AlgorithmFaults.{number_of_text_fault, sentence_of};
 ghost use Rattle.commands.specs.Lines.{fault_line, IsLineWritten};
@@ -13,7 +14,7 @@ use crate::algorithm_fault::{number_of_text_fault, sentence_of};
 use crate::schedules::fault::CommandFault;
 use crate::states::states_fault::StatesFault;
 use algorithm_explorer::LeftOut;
-use algorithms::ReadFault;
+use algorithms::{PassageKind, ReadFault};
 use arrayvec::ArrayString;
 use itoa::Buffer;
 use schedule::Sink;
@@ -87,6 +88,40 @@ pub(crate) fn starves_line(process: u64, cycle: u64) -> ArrayString<128>
     let mut line = ArrayString::new();
     put(&mut line, "starves ", process);
     put(&mut line, " cycle ", cycle);
+    line.push_str("\n");
+    line
+}
+
+/// What stands between a process and its cost.
+fn kind_text(kind: PassageKind) -> &'static str
+    ensures text { result.now ≡ kind_text_by kind }
+    ensures few { length result.now ≤ 20 }
+{
+    match kind {
+        PassageKind::Passage => " passage cost ",
+        PassageKind::SuperPassage => " super-passage cost ",
+    }
+}
+
+/// The line that tells what a passage of a process costs on the schedule before it.
+pub(crate) fn cost_line(kind: PassageKind, process: u64, cost: u64) -> ArrayString<128>
+    ensures { result.bytes ≡ cost_line_by kind process cost }
+{
+    let mut line = ArrayString::new();
+    put(&mut line, "process ", process);
+    put(&mut line, kind_text(kind), cost);
+    line.push_str("\n");
+    line
+}
+
+/// The line that tells that passages of a process have no greatest cost, and how many moves of the schedule before it are the cycle.
+pub(crate) fn unbounded_line(kind: PassageKind, process: u64, cycle: u64) -> ArrayString<128>
+    ensures { result.bytes ≡ unbounded_line_by kind process cycle }
+{
+    let mut line = ArrayString::new();
+    put(&mut line, "process ", process);
+    line.push_str(kind_text(kind));
+    put(&mut line, "unbounded cycle ", cycle);
     line.push_str("\n");
     line
 }

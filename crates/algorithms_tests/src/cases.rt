@@ -2,8 +2,8 @@
 //! what is given, and then what comes of it. Where one text is both, there is no `--`.
 
 use crate::{
-    bad_texts, drawings, hostile_texts, hunts, runs, schedules, searches, sessions, shrinks,
-    spelling, starving, stuck,
+    bad_texts, costs, drawings, hostile_texts, hunts, remote_references, runs, schedules, searches,
+    sessions, shrinks, spelling, starving, stuck,
 };
 use std::alloc::Global;
 use std::test::Fail;
@@ -21,6 +21,8 @@ pub enum Kind {
     Answers,
     /// The moves of a world.
     Run,
+    /// The remote references of the moves of a world.
+    RemoteReferences,
     /// The replay of a schedule.
     Report,
     /// The replay of a schedule with each step, and without the lines of the steps.
@@ -37,6 +39,8 @@ pub enum Kind {
     Starving,
     /// A search for a stuck state.
     Stuck,
+    /// Searches for the greatest costs.
+    Cost,
 }
 
 /// A case: the words of its first line, what is given, and what comes of it.
@@ -84,6 +88,7 @@ fn put_outcome(
         Kind::Spelling => spelling::put_spelling(alloc, words, text),
         Kind::Answers => spelling::put_answers_of(alloc, given, text),
         Kind::Run => runs::put_run(alloc, words, given, text),
+        Kind::RemoteReferences => remote_references::put_references(alloc, words, given, text),
         Kind::Report => schedules::put_report(alloc, words, given, text),
         Kind::ReportOfSteps => schedules::put_report_of_steps(alloc, words, given, text),
         Kind::Drawing => drawings::put_drawing(alloc, words, given, text),
@@ -94,6 +99,7 @@ fn put_outcome(
         Kind::Session => sessions::put_session(alloc, words, given, text),
         Kind::Starving => starving::put_starving(alloc, words, text),
         Kind::Stuck => stuck::put_stuck(alloc, words, text),
+        Kind::Cost => costs::put_costs(alloc, words, text),
     }
 }
 

@@ -19,8 +19,8 @@ Done(0)
 answer \n\
 Entries { lock: 0, unlock: 4, recover: None, withdraw: None }
 seats [\"v\"]
-[Declaration { name: \"seat\", each: true, bound: Some(Number(2)) }]
-Promises { reentry: false, order: false }
+[Declaration { name: \"seat\", extent: Each, bound: Some(Number(2)), home: None }]
+Promises { reentry: false, order: false, exit: None, recovery: None, doorway: None }
 1 to 64 processes, 0 lasting names
 first values Some(FirstValues { starts: [Some(Procs)] })
 ";

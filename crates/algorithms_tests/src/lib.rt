@@ -4,21 +4,31 @@
 #![tactic(auto)]
 
 #[cfg(test)]
+mod arrays;
+#[cfg(test)]
 mod bad_texts;
 #[cfg(test)]
 mod cases;
 #[cfg(test)]
 mod constants;
 #[cfg(test)]
+mod costs;
+#[cfg(test)]
 mod drawings;
 #[cfg(test)]
 mod first_values;
+#[cfg(test)]
+mod homes;
 #[cfg(test)]
 mod hostile_texts;
 #[cfg(test)]
 mod hunts;
 #[cfg(test)]
+mod loops;
+#[cfg(test)]
 mod memory;
+#[cfg(test)]
+mod remote_references;
 #[cfg(test)]
 mod replays;
 #[cfg(test)]
@@ -40,9 +50,13 @@ mod spelling;
 #[cfg(test)]
 mod starving;
 #[cfg(test)]
+mod step_bounds;
+#[cfg(test)]
 mod stuck;
 #[cfg(test)]
 mod support;
 #[cfg(test)]
 mod swaps;
 pub mod texts;
+#[cfg(test)]
+mod writer;

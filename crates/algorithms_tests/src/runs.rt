@@ -7,7 +7,7 @@ use crate::texts::bakeries;
 use algorithm_texts::read_algorithm;
 use algorithms::{
     Algorithm, AlgorithmCall, AlgorithmDeed, AlgorithmPlace, AlgorithmRefusal, AlgorithmWorld,
-    NAMES, NotedDeeds, Taken,
+    Extent, NAMES, NotedDeeds, Taken,
 };
 use std::alloc::{AllocError, Global};
 use std::fmt::Write;
@@ -60,8 +60,11 @@ fn put_access(algorithm: &Algorithm, taken: &Taken, text: &mut String) -> Result
         return text.push_str("no word");
     };
     write!(text, "{} {}", line.number, word.name)?;
-    if word.each {
-        write!(text, "[{}]", address.index)?;
+    match word.extent {
+        Extent::One => {}
+        Extent::Each | Extent::Array(_) | Extent::Table(..) => {
+            write!(text, "[{}]", address.index)?;
+        }
     }
     put_value(taken, text)
 }
@@ -115,7 +118,8 @@ fn put_refusal(
     text.push_str(why)
 }
 
-fn call_named(word: &str) -> AlgorithmCall {
+/// The call of this name.
+pub fn call_named(word: &str) -> AlgorithmCall {
     if word == "lock" {
         AlgorithmCall::Lock
     } else if word == "unlock" {
@@ -152,7 +156,7 @@ fn put_move(world: &mut AlgorithmWorld, asked: &str, text: &mut String) -> Resul
 fn put_words(world: &AlgorithmWorld, text: &mut String) -> Result<(), AllocError> {
     text.push_str("words")?;
     for (declared, row) in world.algorithm().declarations.iter().zip(world.words()) {
-        let used = if declared.each { world.procs() } else { 1 };
+        let used = declared.extent.length(world.procs(), world.limit());
         for value in row.iter().take(used as usize) {
             write!(text, " {value}")?;
         }

@@ -16,9 +16,9 @@ rme 1 procs 2 limit 1 cap 1
 lock 0
 step 0 3
 --
-at 0 rest w flag[0]=1
-at 0 rest w turn=1
-at 0 section r flag[1] 0
+at 0 rest w flag[0]=1 remote dsm write-through write-back
+at 0 rest w turn=1 remote dsm write-through write-back
+at 0 section r flag[1] 0 remote dsm write-through write-back
 begin 0
 ready 0
 enter 0

@@ -1,7 +1,7 @@
 //! What tests of several files use.
 
 use crate::sessions;
-use crate::texts::{bakeries, constructs, others, swaps};
+use crate::texts::{arrays, bakeries, constructs, homes, loops, others, promises, swaps};
 use algorithm_lab::AlgorithmReplayFault;
 use schedule::{Schedule, write_schedule};
 use std::alloc::{AllocError, Global};
@@ -47,6 +47,24 @@ fn swaps_named(name: &str) -> &'static [u8] {
     b""
 }
 
+/// The text of that name among those with arrays of other sizes, with loops over numbers, or with swaps.
+fn arrays_named(name: &str) -> &'static [u8] {
+    for text in [
+        arrays::CLH,
+        arrays::CORNER,
+        arrays::GOLAB_RAMARAJU_TOURNAMENT,
+        arrays::PETERSON_TOURNAMENT,
+        arrays::TABLE,
+        loops::FILTER,
+        loops::STAIRS,
+    ] {
+        if name_of(text) == name {
+            return text;
+        }
+    }
+    swaps_named(name)
+}
+
 /// The text of that name.
 pub fn text_named(name: &str) -> &'static [u8] {
     for text in [
@@ -68,13 +86,24 @@ pub fn text_named(name: &str) -> &'static [u8] {
         others::RECOVERABLE_PETERSON,
         others::SZYMANSKI,
         constructs::CONSTRUCTS,
+        homes::GOLAB_RAMARAJU,
+        homes::HOMES,
+        homes::YANG_ANDERSON,
+        promises::BOUNDED_PETERSON,
+        promises::BOUNDED_TEST_AND_SET,
+        promises::BOUNDED_TICKET,
+        promises::HURRIED_TICKET,
+        promises::INSTANT_TEST_AND_SET,
+        promises::MCS_EXIT_3,
+        promises::TICKET_EXIT_1,
+        promises::TICKET_EXIT_2,
         sessions::BOUNDED,
     ] {
         if name_of(text) == name {
             return text;
         }
     }
-    swaps_named(name)
+    arrays_named(name)
 }
 
 /// Writes what another writer has written.

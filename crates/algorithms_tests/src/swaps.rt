@@ -188,8 +188,8 @@ Done(0)
 answer \n\
 Entries { lock: 0, unlock: 6, recover: None, withdraw: None }
 recoverable_test_and_set [\"h\"]
-[Declaration { name: \"holder\", each: false, bound: Some(Procs) }]
-Promises { reentry: true, order: false }
+[Declaration { name: \"holder\", extent: One, bound: Some(Procs), home: None }]
+Promises { reentry: true, order: false, exit: None, recovery: None, doorway: None }
 1 to 64 processes, 0 lasting names
 first values None
 ";

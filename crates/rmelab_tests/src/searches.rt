@@ -2,6 +2,7 @@
 //! request for memory is refused in turn. Each names public functions of `commands` and of the crates below it.
 
 mod algorithm_commands;
+mod algorithm_costs;
 mod algorithm_explores;
 mod algorithm_faults;
 mod explores;

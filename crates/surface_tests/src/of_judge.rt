@@ -48,6 +48,9 @@ pub fn number_specified(fault: Fault) -> u64 {
         Fault::NotInside => 5,
         Fault::MailOrder => 6,
         Fault::AfterClose => 7,
+        Fault::LongExit => 8,
+        Fault::LongRecovery => 9,
+        Fault::LongDoorway => 10,
     }
 }
 

@@ -67,6 +67,7 @@ pub fn runs_threads(read: &Command) -> bool {
         | Command::ReplayAlgorithm(_)
         | Command::HuntAlgorithm(_)
         | Command::ExploreAlgorithm(_)
+        | Command::Cost(_)
         | Command::States(_)
         | Command::StatesAlgorithm(_)
         | Command::Judge(_)

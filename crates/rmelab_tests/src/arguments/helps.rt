@@ -14,6 +14,7 @@ Commands:
   run      Runs senders on threads, with drawn crashes, and counts their messages
   hunt     Draws schedules until a variant of the lock, or an algorithm, goes wrong
   explore  Tries all schedules up to a bound, for the shortest that goes wrong
+  cost     Looks for the greatest number of remote references of a passage of an algorithm
   states   Writes and checks the states of a search as lines of a text
   judge    Judges a trace of deeds, and prints the verdict
   draw     Draws the run of a schedule as a space-time diagram
@@ -26,7 +27,7 @@ Options:
   -h, --help     Print help
   -V, --version  Print version
 
-Exit status: 0 fine, 1 a verdict against, a schedule found, or a message twice or out of order, 2 a fault of the input, 3 a fault of a device, of memory or of a member, or too many states in `explore`.
+Exit status: 0 fine, 1 a verdict against, a schedule found, or a message twice or out of order, 2 a fault of the input, 3 a fault of a device, of memory or of a member, or too many states in `explore` or `cost`.
 @text JUDGE
 Judges a trace of deeds, and prints the verdict
 
@@ -140,6 +141,28 @@ Shown: on standard error, if that is a terminal, the states, how many moves deep
 Exit status: 0 if nothing was found, 1 if a schedule was, 2 after a fault of the words or the algorithm, 3 after one of a device or of memory, or if there are more states than --states.
 
 Example: rmelab explore --variant no-look --procs 2
+@row rmelab cost --help @out
+Looks for the greatest number of remote references of a passage of an algorithm
+
+Usage: rmelab cost [OPTIONS] --algorithm <FILE> --model <M> --procs <N>
+
+Options:
+      --algorithm <FILE>  Run this algorithm, a text, in place of a variant
+      --model <M>         dsm, write-through or write-back
+      --super-passages    Count in super-passages, which a crash does not end
+      --procs <N>         1 to 64 processes
+      --calls <LIST>      The calls that are started, as for `explore`
+      --crashes <C>       At most C crashes; 0 without it
+      --states <S>        At most S states; 10000000 without it
+      --limit <L>         Numbers up to L; 4 without it
+  -h, --help              Print help
+
+In: the algorithm's text: docs/use/algorithms.md. All its schedules are tried whose moves are the start of a call of --calls, one step, or a crash, of which there are at most --crashes. A passage costs each access of its process that is remote in the model: docs/dev/texts.md.
+Out: a schedule that reaches the greatest cost, and the line `process P passage cost K`; or, if none is the greatest, a schedule and the line `process P passage cost unbounded cycle K`: its last K moves can be made again and again, and cost something each time. With --super-passages the line has `super-passage` in place of `passage`. Nothing is said of a greater size, limit or number of crashes.
+Shown: on standard error, if that is a terminal, the states, how many moves deep and the states a second, once a second while it works.
+Exit status: 0 if a cost is the greatest, 1 if none is, 2 after a fault of the words or the algorithm, 3 after one of a device or of memory, or if there are more states than --states.
+
+Example: rmelab cost --algorithm examples/algorithms/mcs.lock --model write-back --procs 2
 @row rmelab states --help @out
 Writes and checks the states of a search as lines of a text
 
@@ -266,7 +289,7 @@ Usage: rmelab replay [OPTIONS] [FILE]
 For more information, try '--help'.
 @row rmelab @ends 2 @err
 error: 'rmelab' requires a subcommand but one was not provided
-  [subcommands: replay, run, hunt, explore, states, judge, draw, shrink, step, explain, help]
+  [subcommands: replay, run, hunt, explore, cost, states, judge, draw, shrink, step, explain, help]
 
 Usage: rmelab <COMMAND>
 

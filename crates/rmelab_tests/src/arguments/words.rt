@@ -84,6 +84,16 @@ rmelab explore --algorithm a.lock --procs 2 --stuck --limit 1 --jobs 3
 ExploreAlgorithm(AlgorithmExploreArgs { algorithm: \"a.lock\", procs: 2, calls: None, crashes: 0, moves: 18446744073709551615, \
 states: 10000000, limit: 1, stuck: true, starving: None, jobs: 3 })
 
+rmelab cost --algorithm a.lock --model dsm --procs 3 --crashes 1
+Cost(CostArgs { search: AlgorithmExploreArgs { algorithm: \"a.lock\", procs: 3, calls: None, crashes: 1, \
+moves: 18446744073709551615, states: 10000000, limit: 4, stuck: false, starving: None, jobs: 0 }, model: Distributed, \
+kind: Passage })
+
+rmelab cost --algorithm a.lock --model write-back --procs 2 --super-passages --limit 1
+Cost(CostArgs { search: AlgorithmExploreArgs { algorithm: \"a.lock\", procs: 2, calls: None, crashes: 0, \
+moves: 18446744073709551615, states: 10000000, limit: 1, stuck: false, starving: None, jobs: 0 }, model: WriteBack, \
+kind: SuperPassage })
+
 rmelab replay --algorithm a.lock --json b.rme
 ReplayAlgorithm(AlgorithmReplayArgs { algorithm: \"a.lock\", json: true, each: false, file: Some(\"b.rme\") })
 

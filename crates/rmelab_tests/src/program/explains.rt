@@ -59,6 +59,9 @@ against 4
 against 5
 against 6
 against 7
+against 8
+against 9
+against 10
 answer clean
 answer owner-died
 answer numbers-spent

@@ -75,14 +75,14 @@ process 1: outside, no call
 @text BAD_VARIANT
 rmelab: bad variant
 @text ALONE_BY_STEPS
-at 0 rest w flag[0]=1
-at 0 rest w turn=1
-at 0 section r flag[1] 0
+at 0 rest w flag[0]=1 remote dsm write-through write-back
+at 0 rest w turn=1 remote dsm write-through write-back
+at 0 section r flag[1] 0 remote dsm write-through write-back
 begin 0
 ready 0
 enter 0
 answer 0 done
-at 0 rest w flag[0]=0
+at 0 rest w flag[0]=0 remote dsm write-through
 leave 0
 answer 0 done
 words flag 0 0
@@ -93,11 +93,11 @@ verdict fine
 \"words turn 1\",\"verdict fine\"]}
 @text ALONE_AS_LINES
 {\"format\":\"rmelab algorithm steps\",\"version\":1}
-{\"step\":1,\"process\":0,\"phase\":\"rest\",\"access\":\"store\",\"word\":\"flag[0]\",\"value\":1,\"report\":[]}
-{\"step\":2,\"process\":0,\"phase\":\"rest\",\"access\":\"store\",\"word\":\"turn\",\"value\":1,\"report\":[]}
-{\"step\":3,\"process\":0,\"phase\":\"section\",\"access\":\"load\",\"word\":\"flag[1]\",\"value\":0,\"report\":[\
+{\"step\":1,\"process\":0,\"phase\":\"rest\",\"access\":\"store\",\"word\":\"flag[0]\",\"value\":1,\"remote\":{\"dsm\":true,\"write-through\":true,\"write-back\":true},\"report\":[]}
+{\"step\":2,\"process\":0,\"phase\":\"rest\",\"access\":\"store\",\"word\":\"turn\",\"value\":1,\"remote\":{\"dsm\":true,\"write-through\":true,\"write-back\":true},\"report\":[]}
+{\"step\":3,\"process\":0,\"phase\":\"section\",\"access\":\"load\",\"word\":\"flag[1]\",\"value\":0,\"remote\":{\"dsm\":true,\"write-through\":true,\"write-back\":true},\"report\":[\
 \"begin 0\",\"ready 0\",\"enter 0\",\"answer 0 done\"]}
-{\"step\":4,\"process\":0,\"phase\":\"rest\",\"access\":\"store\",\"word\":\"flag[0]\",\"value\":0,\"report\":[\
+{\"step\":4,\"process\":0,\"phase\":\"rest\",\"access\":\"store\",\"word\":\"flag[0]\",\"value\":0,\"remote\":{\"dsm\":true,\"write-through\":true,\"write-back\":false},\"report\":[\
 \"leave 0\",\"answer 0 done\"]}
 {\"words\":\"flag\",\"values\":[0,0]}
 {\"words\":\"turn\",\"values\":[1]}
@@ -109,13 +109,13 @@ step 0
 crash 0
 lock 2
 @text REFUSED_BY_STEPS
-at 0 rest w flag[0]=1
+at 0 rest w flag[0]=1 remote dsm write-through write-back
 at 0 dead
 crash 0
 @text REFUSED_AS_LINES
 {\"format\":\"rmelab algorithm steps\",\"version\":1}
-{\"step\":1,\"process\":0,\"phase\":\"rest\",\"access\":\"store\",\"word\":\"flag[0]\",\"value\":1,\"report\":[]}
-{\"step\":2,\"process\":0,\"phase\":\"dead\",\"access\":null,\"word\":null,\"value\":null,\"report\":[\"crash 0\"]}
+{\"step\":1,\"process\":0,\"phase\":\"rest\",\"access\":\"store\",\"word\":\"flag[0]\",\"value\":1,\"remote\":{\"dsm\":true,\"write-through\":true,\"write-back\":true},\"report\":[]}
+{\"step\":2,\"process\":0,\"phase\":\"dead\",\"access\":null,\"word\":null,\"value\":null,\"remote\":null,\"report\":[\"crash 0\"]}
 @text LINE_5
 rmelab: line 5: refused 3
 @text BEGUN

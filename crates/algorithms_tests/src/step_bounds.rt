@@ -1,0 +1,218 @@
+//! Bounds on own steps, against the numbers of the reference program's second version: an exit of `ticket` takes at most 2 steps, one
+//! of `mcs` waits for its successor without a bound, `recoverable_test_and_set` has entered again after 1 step, and a doorway of
+//! `ticket` takes 1 step.
+
+use crate::cases::{Kind, compare_cases};
+use std::test::Fail;
+
+/// A bound that is kept makes no state of a search, where the place of a process says how many steps it has taken. After a crash in
+/// its doorway `bounded_peterson` comes to the same place by fewer steps.
+const SEARCHES: &str = "\
+== ticket_exit_2 2 1 0\n--\n56 states\n\
+== ticket_exit_1 2 1 0\n--\n6 moves\n\
+== mcs_exit_3 2 1 0\n--\n11 moves\n\
+== bounded_test_and_set 2 1 0\n--\n21 states\n\
+== bounded_test_and_set 2 1 1\n--\n64 states\n\
+== instant_test_and_set 2 1 0\n--\n21 states\n\
+== instant_test_and_set 2 1 1\n--\n6 moves\n\
+== bounded_ticket 2 1 0\n--\n56 states\n\
+== hurried_ticket 2 1 0\n--\n2 moves\n\
+== bounded_peterson 2 1 0\n--\n138 states\n\
+== bounded_peterson 2 1 1\n--\n594 states\n\
+";
+
+/// The first step above the bound is reported once, before the deeds of the step. A crash gives the section up. The verdict on the
+/// deeds comes first.
+const REPORTS: &str = "\
+== mcs_exit_3
+rme 1 procs 2 limit 1 cap 1
+lock 0
+step 0 2
+unlock 0
+step 0
+lock 1
+step 1 2
+step 0 5
+--
+begin 0
+ready 0
+enter 0
+answer 0 done
+begin 1
+ready 1
+exceeds 0 exit
+words tail 2
+words next 0 0
+words locked 0 0
+verdict against 8 at 6
+== ticket_exit_1
+rme 1 procs 1 limit 1 cap 1
+lock 0
+step 0 2
+unlock 0
+step 0 2
+--
+begin 0
+ready 0
+enter 0
+answer 0 done
+exceeds 0 exit
+leave 0
+answer 0 done
+words next 0
+words serving 0
+verdict against 8 at 4
+== ticket_exit_1
+rme 1 procs 1 limit 1 cap 1
+lock 0
+step 0 2
+unlock 0
+step 0
+crash 0
+lock 0
+step 0
+--
+begin 0
+ready 0
+enter 0
+answer 0 done
+leave 0
+crash 0
+begin 0
+ready 0
+words next 0
+words serving 0
+verdict fine
+== instant_test_and_set
+rme 1 procs 1 limit 1 cap 1
+lock 0
+step 0 2
+crash 0
+lock 0
+step 0
+--
+begin 0
+ready 0
+enter 0
+answer 0 done
+crash 0
+exceeds 0 recovery
+reenter 0
+answer 0 done
+words holder 1
+verdict against 9 at 5
+== hurried_ticket
+rme 1 procs 1 limit 1 cap 1
+lock 0
+step 0 2
+--
+exceeds 0 doorway
+begin 0
+ready 0
+enter 0
+answer 0 done
+words next 0
+words serving 0
+verdict against 10 at 1
+";
+
+/// A schedule that a search finds is least already, but for its lines of steps.
+const LEAST: &str = "\
+== mcs_exit_3
+rme 1 procs 2 limit 1 cap 1
+lock 0
+step 0
+step 0
+unlock 0
+step 0
+lock 1
+step 1
+step 1
+step 0
+step 0
+step 0
+--
+rme 1 procs 2 limit 1 cap 1
+lock 0
+step 0 2
+unlock 0
+lock 1
+step 1 2
+step 0 4
+";
+
+/// The excess has a row of its own. The verdict is against no deed, so that none is marked.
+const DRAWING: &str = "\
+== ticket_exit_1
+rme 1 procs 1 limit 1 cap 1
+lock 0
+step 0 2
+unlock 0
+step 0 2
+--
+0                         |
+| s next 0=0              | begin 0
+|                         | ready 0
+# r serving 0             | enter 0
+#                         | answer 0 done
+# r serving 0             |
+. w serving=0             | exceeds 0 exit
+.                         | leave 0
+.                         | answer 0 done
+verdict against 8 at 4
+. rest  : doorway  | waiting  # section  x crash
+ended: against at 4
+";
+
+/// What is wrong, a text, and where: the line, and the number of its fault.
+const BAD: &str = "\
+== no bound\nalgorithm a for 2 processes\npromises exclusion, exit\nshared w\ncall lock\n  w := 1 this is enter\n  done\ncall unlock\n  w := 0 this is leave\n  done\n--\nline 2: fault 4\n\
+== no number\nalgorithm a for 2 processes\npromises exclusion, exit within\nshared w\ncall lock\n  w := 1 this is enter\n  done\ncall unlock\n  w := 0 this is leave\n  done\n--\nline 2: fault 4\n\
+== a name\nalgorithm a for 2 processes\npromises exclusion, exit within x\nshared w\ncall lock\n  w := 1 this is enter\n  done\ncall unlock\n  w := 0 this is leave\n  done\n--\nline 2: fault 4\n\
+== no comma\nalgorithm a for 2 processes\npromises exclusion exit within 1\nshared w\ncall lock\n  w := 1 this is enter\n  done\ncall unlock\n  w := 0 this is leave\n  done\n--\nline 2: fault 4\n\
+== two numbers\nalgorithm a for 2 processes\npromises exclusion, exit within 1 2\nshared w\ncall lock\n  w := 1 this is enter\n  done\ncall unlock\n  w := 0 this is leave\n  done\n--\nline 2: fault 4\n\
+== before order\nalgorithm a for 2 processes\npromises exclusion, exit within 1, order\nshared w\ncall lock\n  w := 1 this is enter\n  done\ncall unlock\n  w := 0 this is leave\n  done\n--\nline 2: fault 4\n\
+== twice\nalgorithm a for 2 processes\npromises exclusion, exit within 1, exit within 1\nshared w\ncall lock\n  w := 1 this is enter\n  done\ncall unlock\n  w := 0 this is leave\n  done\n--\nline 2: fault 4\n\
+== the recovery first\nalgorithm a for 2 processes\npromises exclusion, reentry, recovery within 1, exit within 1\nshared w\ncall lock\n  w := 1 this is enter\n  done\ncall unlock\n  w := 0 this is leave\n  done\n--\nline 2: fault 4\n\
+== a doorway without order\nalgorithm a for 2 processes\npromises exclusion, reentry, doorway within 1\nshared w\ncall lock\n  w := 1 this is enter\n  done\ncall unlock\n  w := 0 this is leave\n  done\n--\nline 2: fault 4\n\
+== the doorway first\nalgorithm a for 2 processes\npromises exclusion, order, doorway within 1, exit within 1\nshared w\ncall lock\n  w := 1 this is enter\n  done\ncall unlock\n  w := 0 this is leave\n  done\n--\nline 2: fault 4\n\
+== alone\nalgorithm a for 2 processes\npromises exit within 1\nshared w\ncall lock\n  w := 1 this is enter\n  done\ncall unlock\n  w := 0 this is leave\n  done\n--\nline 2: fault 4\n\
+== too great\nalgorithm a for 2 processes\npromises exclusion, exit within 18446744073709551616\nshared w\ncall lock\n  w := 1 this is enter\n  done\ncall unlock\n  w := 0 this is leave\n  done\n--\nline 2: fault 16\n\
+";
+
+/// `exit`, `recovery`, `doorway` and `within` are no words of the format.
+const GOOD: &str = "\
+== a recovery alone\nalgorithm a for 2 processes\npromises exclusion, recovery within 0\nshared w\ncall lock\n  w := 1 this is enter\n  done\ncall unlock\n  w := 0 this is leave\n  done\n--\nread\n\
+== all of them\nalgorithm a for 2 processes\npromises exclusion, reentry, order, exit within 18446744073709551615, recovery within 7, doorway within 2\nshared w\ncall lock\n  w := 1 this is begin\n  w := 2 this is ready\n  w := 3 this is enter\n  done\ncall unlock\n  w := 0 this is leave\n  done\n--\nread\n\
+== as names\nalgorithm exit for 2 processes\npromises exclusion, exit within 1\nshared within\ncall lock\n  recovery := within\n  within := recovery this is enter\n  done\ncall unlock\n  within := 0 this is leave\n  done\n--\nread\n\
+";
+
+#[test]
+fn searches_with_bounds(rt: HostRuntime) -> Result<(), Fail> {
+    compare_cases(rt.alloc(), Kind::Search, SEARCHES)
+}
+
+#[test]
+fn an_excess_is_reported(rt: HostRuntime) -> Result<(), Fail> {
+    compare_cases(rt.alloc(), Kind::Report, REPORTS)
+}
+
+#[test]
+fn an_excess_is_drawn(rt: HostRuntime) -> Result<(), Fail> {
+    compare_cases(rt.alloc(), Kind::Drawing, DRAWING)
+}
+
+#[test]
+fn a_schedule_against_a_bound_is_made_least(rt: HostRuntime) -> Result<(), Fail> {
+    compare_cases(rt.alloc(), Kind::Shrink, LEAST)
+}
+
+#[test]
+fn each_fault_of_a_bound_has_its_line(rt: HostRuntime) -> Result<(), Fail> {
+    compare_cases(rt.alloc(), Kind::Reading, BAD)
+}
+
+#[test]
+fn bounds_are_read(rt: HostRuntime) -> Result<(), Fail> {
+    compare_cases(rt.alloc(), Kind::Reading, GOOD)
+}

@@ -1,0 +1,163 @@
+//! Texts that bound the own steps of a section.
+
+pub const TICKET_EXIT_2: &[u8] = br"algorithm ticket_exit_2 for 1 to 64 processes
+promises exclusion, order, exit within 2
+shared next up to procs - 1
+shared serving up to procs - 1
+call lock
+  t := swap next to (t + 1) mod procs   this is begin
+  this is ready
+  await s := serving until s = t
+  this is enter
+  done
+call unlock
+  s := serving
+  serving := (s + 1) mod procs          this is leave
+  done
+";
+
+pub const TICKET_EXIT_1: &[u8] = br"algorithm ticket_exit_1 for 1 to 64 processes
+promises exclusion, order, exit within 1
+shared next up to procs - 1
+shared serving up to procs - 1
+call lock
+  t := swap next to (t + 1) mod procs   this is begin
+  this is ready
+  await s := serving until s = t
+  this is enter
+  done
+call unlock
+  s := serving
+  serving := (s + 1) mod procs          this is leave
+  done
+";
+
+pub const MCS_EXIT_3: &[u8] = br"algorithm mcs_exit_3 for 1 to 64 processes
+promises exclusion, order, exit within 3
+shared tail up to procs
+shared next[procs] up to procs
+shared locked[procs] up to 1
+call lock
+  next[me] := 0                         this is begin
+  p := swap tail to me + 1              this is ready
+  if p != 0 then
+    locked[me] := 1
+    next[p - 1] := me + 1
+    await l := locked[me] until l = 0
+  end
+  this is enter
+  done
+call unlock
+  n := next[me]
+  if n = 0 then
+    t := swap tail to 0 if t = me + 1
+    if t = me + 1 then
+      this is leave
+      done
+    end
+    await n := next[me] until n != 0
+  end
+  locked[n - 1] := 0                    this is leave
+  done
+";
+
+pub const BOUNDED_TEST_AND_SET: &[u8] = br"algorithm bounded_test_and_set for 1 to 64 processes
+promises exclusion, reentry, exit within 1, recovery within 1
+shared holder up to procs
+call lock
+  h := holder
+  if h = me + 1 then goto in_now
+  await h := swap holder to me + 1 if h = 0 until h = 0
+in_now:
+  this is enter
+  done
+call unlock
+  holder := 0                           this is leave
+  done
+";
+
+pub const INSTANT_TEST_AND_SET: &[u8] = br"algorithm instant_test_and_set for 1 to 64 processes
+promises exclusion, reentry, recovery within 0
+shared holder up to procs
+call lock
+  h := holder
+  if h = me + 1 then goto in_now
+  await h := swap holder to me + 1 if h = 0 until h = 0
+in_now:
+  this is enter
+  done
+call unlock
+  holder := 0                           this is leave
+  done
+";
+
+pub const BOUNDED_TICKET: &[u8] = br"algorithm bounded_ticket for 1 to 64 processes
+promises exclusion, order, exit within 2, doorway within 1
+shared next up to procs - 1
+shared serving up to procs - 1
+call lock
+  t := swap next to (t + 1) mod procs   this is begin
+  this is ready
+  await s := serving until s = t
+  this is enter
+  done
+call unlock
+  s := serving
+  serving := (s + 1) mod procs          this is leave
+  done
+";
+
+pub const HURRIED_TICKET: &[u8] = br"algorithm hurried_ticket for 1 to 64 processes
+promises exclusion, order, doorway within 0
+shared next up to procs - 1
+shared serving up to procs - 1
+call lock
+  t := swap next to (t + 1) mod procs   this is begin
+  this is ready
+  await s := serving until s = t
+  this is enter
+  done
+call unlock
+  s := serving
+  serving := (s + 1) mod procs          this is leave
+  done
+";
+
+pub const BOUNDED_PETERSON: &[u8] = br"algorithm bounded_peterson for 2 processes
+promises exclusion, reentry, order, doorway within 4
+shared flag[procs] up to 3
+shared turn up to 1
+call lock
+  f := flag[me]
+  if f = 3 then
+    this is reenter
+    done owner-died
+  end
+  if f = 2 then goto waiting
+  if f = 0 then
+    flag[me] := 1                       this is begin
+  end
+  turn := 1 - me
+  flag[me] := 2                         this is ready
+waiting:
+  f := flag[1 - me]                     may withdraw
+  if f = 0 then goto in_now
+  t := turn                             may withdraw
+  if t != me then goto waiting
+in_now:
+  flag[me] := 3                         may withdraw  this is enter
+  done clean
+call unlock
+  flag[me] := 0                         this is leave
+  done unlocked
+call recover
+  f := flag[me]
+  if f = 0 then done found idle
+  if f = 1 then done found doorway
+  if f = 2 then done found waiting
+  this is reenter
+  done found inside
+call withdraw
+  flag[me] := 0                         this is quit
+  done withdrawn
+";

@@ -1,0 +1,233 @@
+//! Algorithms that are written as texts, and read again.
+
+use crate::support::text_named;
+use algorithm_texts::{WritingFault, read_algorithm, write_algorithm};
+use std::alloc::Global;
+use std::fmt::Write;
+use std::process::Abort;
+use std::test::Fail;
+
+/// All names of texts.
+const NAMES: [&str; 52] = [
+    "bakery",
+    "bakery_ruin",
+    "exit_on_crash",
+    "no_look",
+    "no_ties",
+    "renumber",
+    "bakery_1974",
+    "burns",
+    "dekker",
+    "forgetful_peterson",
+    "lamport_fast",
+    "no_turn",
+    "one_word",
+    "peterson",
+    "peterson_order",
+    "recoverable_peterson",
+    "szymanski",
+    "anderson",
+    "mcs",
+    "recoverable_test_and_set",
+    "recoverable_ticket",
+    "test_and_set",
+    "test_and_test_and_set",
+    "ticket",
+    "board",
+    "counter",
+    "mcs_nil",
+    "named",
+    "narrow",
+    "seats",
+    "owner",
+    "turnstile",
+    "constructs",
+    "bounded",
+    "golab_ramaraju",
+    "yang_anderson",
+    "homes",
+    "clh",
+    "corner",
+    "golab_ramaraju_tournament",
+    "peterson_tournament",
+    "table",
+    "filter",
+    "stairs",
+    "bounded_peterson",
+    "bounded_test_and_set",
+    "bounded_ticket",
+    "hurried_ticket",
+    "instant_test_and_set",
+    "mcs_exit_3",
+    "ticket_exit_1",
+    "ticket_exit_2",
+];
+
+/// A text as it is written: blocks that end in lines to which no run comes, gotos at the end of an `if`, and brackets.
+const BLOCKS: &str = "algorithm blocks for 2 to 4 processes
+promises exclusion
+shared x
+shared each[procs] up to (procs + 1) * 2
+private last
+
+call lock
+  a := x
+  if a = 1 then
+    if last = 0 then
+      done one
+    else
+      each[me] := 1
+      done two
+    end
+  else
+    last := 7 - (3 - 1) - 1
+  end
+  for j in all
+    b := each[j]
+    if b = max(j, 1) or not ((a, b) < (1, last * (2 + a))) and a >= 0 then
+      goto at22
+    end
+    if b = 2 then
+      x := 3
+    else
+      x := 4
+    end
+    for k in others
+      c := each[k]
+      done three
+    end
+  end
+at22:
+  x := (a + 1) mod 2 this is enter
+  if a = 0 then
+    x := 5
+    goto at29
+  end
+  last := 1
+at28:
+  await d := x until d = 0
+at29:
+  e := x
+  if e = 8 then goto at28
+  done
+
+call unlock
+  x := 0 this is leave
+  done
+";
+
+/// A text as it is written: constants, whose values stand where they were named, bounds and first values.
+const VALUES: &str = "algorithm values for 2 to 8 processes
+promises exclusion, order
+constant two = 2
+constant most = max(procs, 2) - (limit - 1)
+constant twice = (max(procs, 2) - (limit - 1)) * 2
+shared x up to (max(procs, 2) - (limit - 1)) * 2 starts max(procs, 2) - (limit - 1)
+shared turn[procs] up to procs * 2 starts (owner + 1) mod procs
+shared other starts 0
+shared free[procs]
+shared lone[procs] starts min(owner, 1) * (7 - (owner - 1))
+private last
+
+call lock
+  x := max(procs, 2) - (limit - 1) this is begin
+  last := me + 2
+  a := other this is ready
+  b := lone[a] this is enter
+  free[me] := b
+  turn[me] := 0
+  done
+
+call unlock
+  x := 0 this is leave
+  done
+";
+
+/// A text as it is written: bounds on own steps, sizes, homes, words of tables, and loops over numbers.
+const EXTENTS: &str = "algorithm extents for 2 to 8 processes
+promises exclusion, reentry, order, exit within 3, recovery within 18446744073709551615, doorway within 0
+constant two = 2
+shared row[procs + 1] up to (procs + 1) * 2 starts owner * 2 at owner - 1
+shared grid[2 * (procs - 1)][max(procs, limit) - 1] up to 9 at min(owner / 2, 1)
+shared square[2][procs] starts 1
+shared lone[1] at 0
+shared far at procs - 1
+shared each[procs] at owner
+private last
+
+call lock
+  a := row[me] this is begin
+  for l from 1 to procs - 1
+    grid[l][0] := l + 1
+    for k from limit - (me + 1) * 2 down to max(me, 2)
+      row[(k + l) mod (procs + 1)] := k
+    end
+  end
+  b := grid[me + 1][a * 2]
+  await c := square[(a + 1) * 2][b - 1] until c = 0 this is ready
+  last := swap grid[a][b] to c if last = 1
+  for j from 2 to 1
+    lone[0] := j
+  end
+  each[me] := 0 this is enter
+  done
+
+call unlock
+  far := 0 this is leave
+  done
+";
+
+/// What is written of a text that is read. It is read again as the same algorithm.
+fn written_of<R: Abort>(rt: &R, alloc: Global, text: &[u8]) -> Result<String, Fail> {
+    let read = read_algorithm(alloc, text)?;
+    let written = write_algorithm(alloc, &read)?;
+    let again = read_algorithm(alloc, written.as_bytes())?;
+    let mut first = String::new(alloc);
+    write!(first, "{read:?}")?;
+    let mut second = String::new(alloc);
+    write!(second, "{again:?}")?;
+    assert!(rt; first == second, "{written}");
+    Ok(written)
+}
+
+#[test]
+fn texts_are_written_and_read_again(rt: HostRuntime) -> Result<(), Fail> {
+    for name in NAMES {
+        written_of(&rt, rt.alloc(), text_named(name))?;
+    }
+    Ok(())
+}
+
+#[test]
+fn a_written_text_is_written_as_it_stands(rt: HostRuntime) -> Result<(), Fail> {
+    for text in [BLOCKS, VALUES, EXTENTS] {
+        let written = written_of(&rt, rt.alloc(), text.as_bytes())?;
+        assert!(rt; written.as_str() == text, "{written}");
+    }
+    Ok(())
+}
+
+#[test]
+fn what_no_text_spells_is_refused(rt: HostRuntime) -> Result<(), Fail> {
+    let mut initialized = read_algorithm(rt.alloc(), text_named("peterson"))?;
+    initialized.algorithm.lines.pop();
+    let fault = write_algorithm(rt.alloc(), &initialized).err();
+    assert!(rt; fault == Some(WritingFault::NotSpelled), "{fault:?}");
+    Ok(())
+}
+
+/// Where a constant is named or a first value is said, all algorithms of the text have first values.
+#[test]
+fn values_without_first_values_are_refused(rt: HostRuntime) -> Result<(), Fail> {
+    let mut initialized = read_algorithm(rt.alloc(), text_named("named"))?;
+    initialized.first_values = None;
+    let fault = write_algorithm(rt.alloc(), &initialized).err();
+    assert!(rt; fault == Some(WritingFault::NotSpelled), "{fault:?}");
+    let mut initialized = read_algorithm(rt.alloc(), text_named("seats"))?;
+    if let Some(values) = &mut initialized.first_values {
+        values.starts.pop();
+    }
+    let fault = write_algorithm(rt.alloc(), &initialized).err();
+    assert!(rt; fault == Some(WritingFault::NotSpelled), "{fault:?}");
+    Ok(())
+}

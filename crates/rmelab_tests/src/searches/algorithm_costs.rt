@@ -1,0 +1,105 @@
+//! The costs of algorithms. The schedules are those of the reference program of the format's second version, with the moves in the
+//! order in which `rmelab` tries them.
+
+use crate::searches::algorithm_commands;
+use crate::searches::named_texts::example_algorithms;
+use crate::support::invocation::{all_come_to, program_comes_to};
+use std::test::Fail;
+
+/// `COSTLY`: process 0 stores three times, and reads each of the other's words anew. `SHARED`: the other has read its flag before it
+/// stores again. `FREE`: nobody starts a lock. `ALONE_COSTS`: it reads the word, and stores twice. `SPINS`: it waits for itself.
+pub const TEXTS: &str = "
+@text COSTLY
+rme 1 procs 2 limit 4 cap 1
+lock 0
+lock 1
+step 1
+step 1
+step 1
+step 0
+step 0
+step 0
+step 0
+unlock 1
+step 1
+lock 1
+step 1
+step 0
+step 1
+step 0
+unlock 0
+step 0
+process 0 passage cost 6
+@text SHARED
+rme 1 procs 2 limit 4 cap 1
+lock 0
+step 0
+lock 1
+step 1
+step 1
+step 0
+step 0
+step 0
+step 1
+step 1
+unlock 1
+step 1
+lock 1
+step 1
+step 0
+step 1
+step 0
+unlock 0
+step 0
+process 0 super-passage cost 6
+@text FREE
+rme 1 procs 2 limit 4 cap 1
+process 0 passage cost 0
+@text ALONE_COSTS
+rme 1 procs 1 limit 1 cap 1
+lock 0
+step 0
+step 0
+unlock 0
+step 0
+process 0 passage cost 3
+@text SPINS
+rme 1 procs 1 limit 1 cap 1
+lock 0
+step 0
+step 0
+crash 0
+lock 0
+step 0
+process 0 passage cost unbounded cycle 1
+";
+
+const COSTS: &str = "
+@row rmelab cost --algorithm a.lock --model write-through --procs 2 @file a.lock PETERSON @out COSTLY
+@row rmelab cost --algorithm a.lock --model write-back --procs 2 --super-passages @file a.lock PETERSON @out SHARED
+@row rmelab cost --algorithm a.lock --model write-back --procs 2 --calls unlock @file a.lock PETERSON @out FREE
+@row rmelab cost --algorithm a.lock --model write-through --procs 1 --limit 1 @file a.lock ONE_WORD @out ALONE_COSTS
+@row rmelab cost --algorithm a.lock --model dsm --procs 1 --limit 1 --crashes 1 @file a.lock ONE_WORD @out SPINS @ends 1
+@row rmelab cost --algorithm a.lock --model write-through --procs 2 --states 50 @file a.lock PETERSON @ends 3 @err
+rmelab: too many states
+@row rmelab cost --algorithm a.lock --model write-through --procs 3 @file a.lock PETERSON @ends 2 @err BAD_SIZE
+@row rmelab cost --algorithm a.lock --model dsm --procs 2 --limit 0 @file a.lock PETERSON @ends 2 @err BAD_SIZE
+@row rmelab cost --algorithm a.lock --model numa --procs 2 @ends 2 @err BAD_SIZE
+@row rmelab cost --algorithm a.lock --model dsm --procs 2 --calls lock,close @ends 2 @err BAD_SIZE
+";
+
+const COSTS_THAT_FAIL: &str = "
+@row rmelab cost --algorithm a.lock --model dsm --procs 2 @file a.lock HIDDEN @ends 2 @err
+rmelab: algorithm line 6: fault 7: a second access in one line
+@row rmelab cost --algorithm a.lock --model dsm --procs 2 @ends 3 @err UNREAD
+@row rmelab cost --algorithm a.lock --model dsm --procs 2 @file a.lock PETERSON @fails file-read @ends 3 @err UNREAD
+@row rmelab cost --algorithm a.lock --model write-through --procs 2 @file a.lock PETERSON @fails write @ends 3 @err UNWRITTEN
+";
+
+#[test]
+fn costs_of_an_algorithm(rt: HostRuntime) -> Result<(), Fail> {
+    let algorithms = example_algorithms(rt.alloc())?;
+    let texts = [algorithms.as_str(), TEXTS, algorithm_commands::TEXTS];
+    all_come_to(&rt, rt.alloc(), &texts, COSTS)?;
+    program_comes_to(&rt, rt.alloc(), &texts, COSTS_THAT_FAIL)
+}

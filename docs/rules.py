@@ -18,7 +18,7 @@ MOST_LINES_OF_A_BODY = 40
 WIDEST_CLAUSE = 140  # Bytes.
 MOST_NOUNS = 40
 MOST_DOUBLE_NAMES = 4
-MOST_WORDS = 37_100  # Of all pages by hand, as `wc -w` counts them.
+MOST_WORDS = 36_900
 MOST_HEADLINES = 2
 HEADLINE = "nobody enters before the process that crashed there has entered again"
 
@@ -26,6 +26,7 @@ HEADLINE = "nobody enters before the process that crashed there has entered agai
 MADE = {
     "docs/theory/laws.md": "docs/from-sources",
     "docs/dev/calls.md": "docs/from-sources",
+    "docs/use/locks.md": "docs/from-searches",
     "docs/use/rmelab.1": "docs/from-help",
     "completions/rmelab.bash": "docs/from-help",
     "completions/_rmelab": "docs/from-help",

@@ -1,11 +1,11 @@
 -- Lines that fall: a run of local lines ends.
-use Rattle.std.proofs.Common.{ℕ, zero, suc, ◌+◌, ◌-◌, ◌^◌, ◌<◌, ◌≤◌, ◌≡◌, Bool, true, false, cond, ◌&&◌, ◌||◌, nat_lt, nat_le, nat_eq, refl, sym, ◌∙◌, ap, List, length, replicate, Option, Some, None, Ok, Err, ok_or, slice_get, slice_index, option_and_then, arith}
-use Rattle.std.proofs.lemmas.Bool.{leb-true, le-leb, lt-ltb, ltb-true}
+use Rattle.std.proofs.Common.{ℕ, zero, suc, ◌+◌, ◌-◌, ◌<◌, ◌≤◌, ◌≡◌, Bool, true, false, cond, ◌&&◌, ◌||◌, nat_lt, nat_le, nat_eq, refl, sym, ◌∙◌, ap, subst, List, length, replicate, Option, Some, None, Result, Ok, Err, ok_or, slice_get, slice_index, option_and_then, arith}
+use Rattle.std.proofs.lemmas.Bool.{leb-true, le-leb, lt-ltb, ltb-true, eqb-true, eq-eqb}
 use Rattle.std.proofs.lemmas.Option.{same_Some, slice_get_within}
 use Rattle.algorithms.specs.Values.{expression_value, operation_value, holds, fitting}
 use Rattle.algorithms.specs.LocalRuns.{at_place, with_value, with_deed, least_from, member_from, end_value, first_number, number_after, round_at, local_line_done}
-use Rattle.algorithms.specs.Arrivals.{GoesOn, arrives, arrives_after, local_step_of, ◌>>=◌}
-use Rattle.algorithms.specs.Ranked.{rank_of, is_line_below, is_below, literal_of, less_by, least_joined, least_value, has_round, ways_pass, is_line, form_falls, AllFall, LocalLinesEnd, AccessesLeadOn}
+use Rattle.algorithms.specs.Arrivals.{GoesOn, GoesBack, RoundOutcome, Arrives, Repeats, outcome_after, after_round, further_rounds, is_way_back, local_step_of, most_local_rounds, round_outcome, step_to, ◌>>=◌}
+use Rattle.algorithms.specs.Ranked.{rank_of, is_line_below, is_below, literal_of, less_by, least_joined, least_value, has_round, ways_pass, is_line, is_line_at, form_falls, AllFall, LocalLinesEnd, AccessesLeadOn}
 use Rattle.algorithms.specs.declared.algorithm.Algorithm.{Algorithm}
 use Rattle.algorithms.specs.declared.constants.Constants.{Constants}
 use Rattle.algorithms.specs.declared.expression.Expression.{Expression, Number, Private, Me, Procs, Limit, Joined'}
@@ -19,6 +19,7 @@ use Rattle.algorithms.specs.declared.line.LocalLine.TheVariants.{Assign, Note, G
 use Rattle.algorithms.specs.declared.line.Members.{Members}
 use Rattle.algorithms.specs.declared.line.Members.TheVariants.{All, Others, Lower, Higher, Up, Down}
 use Rattle.algorithms.specs.declared.local.LocalState.{LocalState}
+use Rattle.algorithms.specs.declared.refusal.AlgorithmRefusal.{AlgorithmRefusal}
 use Rattle.algorithms.specs.declared.refusal.AlgorithmRefusal.TheVariants.{OutOfRange, Malformed}
 
 -- both parts of a test that passes
@@ -147,29 +148,42 @@ or_first : (a b : Bool) → a || b ≡ true → (a ≡ true → ⊥) → b ≡ t
 or_first true b h never = absurd (never refl)
 or_first false b h never = h
 
+-- the test of a place to which a line has led
+abbrev way_passes : (test begins : ℕ → Bool) → LocalLine → ℕ → Bool
+way_passes test begins line at = cond (is_way_back line at) (begins at) (test at)
+
+past_passes : (back x y : Bool) → (back ≡ true → x ≡ true) → y ≡ true → cond back x y ≡ true
+past_passes true x y h k = h refl
+past_passes false x y h k = k
+
 -- a local line leads to one of its ways
-goes_a_way : (test : ℕ → Bool) (least next : ℕ) (c : Constants) (s t : LocalState) (line : LocalLine) → c.me < c.procs → least ≤ c.procs
-    → ways_pass test least next line ≡ true → local_line_done c next line s ≡ Some t → test t.at ≡ true
-goes_a_way test least next c s t (Assign name value) own many w e =
+goes_a_way : (test begins : ℕ → Bool) (least next : ℕ) (c : Constants) (s t : LocalState) (line : LocalLine) → c.me < c.procs → least ≤ c.procs
+    → ways_pass test begins least next line ≡ true → local_line_done c next line s ≡ Some t → way_passes test begins line t.at ≡ true
+goes_a_way test begins least next c s t (Assign name value) own many w e =
     bind_lands test (expression_value c s.store value) (λ v. Some (at_place next (with_value name v s))) t e (λ v f. some_lands test (at_place next (with_value name v s)) t f w)
-goes_a_way test least next c s t (Note deed) own many w e =
+goes_a_way test begins least next c s t (Note deed) own many w e =
     bind_lands test (with_deed deed s) (λ u. Some (at_place next u)) t e (λ u f. some_lands test (at_place next u) t f w)
-goes_a_way test least next c s t (Goto place) own many w e = some_lands test (at_place place s) t e w
-goes_a_way test least next c s t (Branch condition otherwise) own many w e =
+goes_a_way test begins least next c s t (Goto place) own many w e = some_lands test (at_place place s) t e w
+goes_a_way test begins least next c s t (Branch condition otherwise) own many w e =
     bind_lands test (holds c s.store condition) (λ b. Some (at_place (cond b next otherwise) s)) t e
     (λ b f. some_lands test (at_place (cond b next otherwise) s) t f
     (elim b as (λ v. test (cond v next otherwise) ≡ true) [ true ↦ left_of (test next) (test otherwise) w | false ↦ right_of (test next) (test otherwise) w ]))
-goes_a_way test least next c s t (First name members after) own many w e =
+goes_a_way test begins least next c s t (First name members after) own many w e =
     bind_got test (first_number c members) (λ m. Some (round_at name next after s m)) t e
     (λ m got f. some_lands test (round_at name next after s m) t f
     (round_lands test name next after s m (left_of (test next) (has_round least members || test after) w)
     (λ none. or_first (has_round least members) (test after) (right_of (test next) (has_round least members || test after) w)
     (λ r. first_some least members c r own many (got ∙ ap Some none)))))
-goes_a_way test least next c s t (Next name members body) own many w e =
-    bind_lands test (slice_get s.store name) (λ j. option_and_then (λ m. Some (round_at name body next s m)) (number_after c members j)) t e
-    (λ j f. bind_lands test (number_after c members j) (λ m. Some (round_at name body next s m)) t f
-    (λ m g. some_lands test (round_at name body next s m) t g
-    (round_lands test name body next s m (left_of (test body) (test next) w) (λ none. right_of (test body) (test next) w))))
+goes_a_way test begins least next c s t (Next name members body) own many w e =
+    let there = left_of (begins body) (test next) w in
+    let past = right_of (begins body) (test next) w in
+    let passes : ℕ → Bool = way_passes test begins (Next name members body) in
+    bind_lands passes (slice_get s.store name) (λ j. option_and_then (λ m. Some (round_at name body next s m)) (number_after c members j)) t e
+    (λ j f. bind_lands passes (number_after c members j) (λ m. Some (round_at name body next s m)) t f
+    (λ m g. some_lands passes (round_at name body next s m) t g
+    (round_lands passes name body next s m
+    (ap (λ b. cond b (begins body) (test body)) (eq-eqb body body refl) ∙ there)
+    (λ none. past_passes (nat_eq body next) (begins next) (test next) (λ same. subst (λ place. begins place ≡ true) (eqb-true body next same) there) past))))
 
 -- the line at a place that is below a rank
 line_below : (ranks : List ℕ) (rank place : ℕ) (o : Option AlgorithmLine) → is_line_below ranks rank place o ≡ true
@@ -177,47 +191,89 @@ line_below : (ranks : List ℕ) (rank place : ℕ) (o : Option AlgorithmLine) �
 line_below ranks rank place None h = absurd (cc)
 line_below ranks rank place (Some line) h = (line, (refl, ltb-true _ _ h))
 
--- one line of a run: it stops, is refused for a value, or goes on at a line of lower rank
-by_next : (lines : List AlgorithmLine) (c : Constants) (m place p : ℕ) (s : LocalState) (o : Option LocalState)
-    → ((t : LocalState) → Some t ≡ o → arrives lines c m t ≡ Err (Malformed p) → ⊥)
-    → ((ok_or o (OutOfRange place) >>= (λ next. Ok (GoesOn next))) >>= arrives_after (arrives lines c m) s) ≡ Err (Malformed p) → ⊥
-by_next lines c m place p s None rest e = cc
-by_next lines c m place p s (Some t) rest e = rest t refl e
+-- a round that ends: at a stop, at a line with which the next round begins, or at a value out of range
+abbrev RoundFits : List AlgorithmLine → Result RoundOutcome AlgorithmRefusal → Type 0
+RoundFits lines (Ok (Arrives l)) = Unit {0}
+RoundFits lines (Ok (Repeats at next)) = is_line_at lines next.at ≡ true
+RoundFits lines (Err e) = (p : ℕ) → e ≡ Malformed p → ⊥
 
--- a line of a run, where the run ends from every line of lower rank with one line less
-ends_at : (lines : List AlgorithmLine) (least : ℕ) (ranks : List ℕ) (c : Constants) (n p : ℕ) (s : LocalState) (form : LineKind) → c.me < c.procs → least ≤ c.procs
-    → ((t : LocalState) (line : AlgorithmLine) → slice_get lines t.at ≡ Some line → rank_of (slice_index ranks t.at) line.form < n → arrives lines c n t ≡ Err (Malformed p) → ⊥)
+-- one line of a round: it stops, is refused for a value, or goes on at a line of lower rank, or begins the next round
+by_next : (lines : List AlgorithmLine) (c : Constants) (m place : ℕ) (s : LocalState) (line : LocalLine) (o : Option LocalState)
+    → ((t : LocalState) → Some t ≡ o → RoundFits lines (outcome_after (round_outcome lines c m) s (step_to line t)))
+    → RoundFits lines ((ok_or o (OutOfRange place) >>= (λ next. Ok (step_to line next))) >>= outcome_after (round_outcome lines c m) s)
+by_next lines c m place s line None rest = λ p e. cc
+by_next lines c m place s line (Some t) rest = rest t refl
+
+back_or_on : (lines : List AlgorithmLine) (c : Constants) (m : ℕ) (s t : LocalState) (back below : Bool) → cond back (is_line_at lines t.at) below ≡ true
+    → (below ≡ true → RoundFits lines (round_outcome lines c m t))
+    → RoundFits lines (outcome_after (round_outcome lines c m) s (cond back (GoesBack t) (GoesOn t)))
+back_or_on lines c m s t true below h rest = h
+back_or_on lines c m s t false below h rest = rest h
+
+-- a line of a round, where the round ends from every line of lower rank with one line less
+ends_at : (lines : List AlgorithmLine) (least : ℕ) (ranks : List ℕ) (c : Constants) (n : ℕ) (s : LocalState) (form : LineKind) → c.me < c.procs → least ≤ c.procs
+    → ((t : LocalState) (line : AlgorithmLine) → slice_get lines t.at ≡ Some line → rank_of (slice_index ranks t.at) line.form < n → RoundFits lines (round_outcome lines c n t))
     → form_falls lines least ranks s.at form ≡ true → rank_of (slice_index ranks s.at) form < suc n
-    → (local_step_of c form s >>= arrives_after (arrives lines c n) s) ≡ Err (Malformed p) → ⊥
-ends_at lines least ranks c n p s (Access access) own many rest f low e = cc
-ends_at lines least ranks c n p s (Done answer) own many rest f low e = cc
-ends_at lines least ranks c n p s (Local local) own many rest f low e =
-    by_next lines c n s.at p s (local_line_done c (s.at + 1) local s) (λ t done more.
+    → RoundFits lines (local_step_of c form s >>= outcome_after (round_outcome lines c n) s)
+ends_at lines least ranks c n s (Access access) own many rest f low = tt
+ends_at lines least ranks c n s (Done answer) own many rest f low = tt
+ends_at lines least ranks c n s (Local local) own many rest f low =
+    by_next lines c n s.at s local (local_line_done c (s.at + 1) local s) (λ t done.
     let test : ℕ → Bool = is_below lines ranks (slice_index ranks s.at) in
-    let way = goes_a_way test least (s.at + 1) c s t local own many (left_of (ways_pass test least (s.at + 1) local) (nat_lt (slice_index ranks s.at) (length lines)) f) (sym done) in
-    let there = line_below ranks (slice_index ranks s.at) t.at (slice_get lines t.at) way in
-    rest t there.0 there.1.0 (omega (arith, there.1.1)) more) e
+    let way = goes_a_way test (is_line_at lines) least (s.at + 1) c s t local own many
+    (left_of (ways_pass test (is_line_at lines) least (s.at + 1) local) (nat_lt (slice_index ranks s.at) (length lines)) f) (sym done) in
+    back_or_on lines c n s t (is_way_back local t.at) (test t.at) way (λ below.
+    let there = line_below ranks (slice_index ranks s.at) t.at (slice_get lines t.at) below in
+    rest t there.0 there.1.0 (omega (arith, there.1.1))))
 
 falls_end : (lines : List AlgorithmLine) (least : ℕ) (ranks : List ℕ) (c : Constants) → AllFall lines least ranks → c.me < c.procs → least ≤ c.procs
-    → (n p : ℕ) (s : LocalState) (line : AlgorithmLine) → slice_get lines s.at ≡ Some line → rank_of (slice_index ranks s.at) line.form < n → arrives lines c n s ≡ Err (Malformed p) → ⊥
-falls_end lines least ranks c all own many zero p s line here low e = absurd (omega arith)
-falls_end lines least ranks c all own many (suc n) p s line here low e =
-    ends_at lines least ranks c n p s line.form own many (falls_end lines least ranks c all own many n p) (all s.at line here) low
-    (ap (λ o. (ok_or o (Malformed s.at) >>= (λ l. local_step_of c l.form s)) >>= arrives_after (arrives lines c n) s) (sym here) ∙ e)
+    → (n : ℕ) (s : LocalState) (line : AlgorithmLine) → slice_get lines s.at ≡ Some line → rank_of (slice_index ranks s.at) line.form < n → RoundFits lines (round_outcome lines c n s)
+falls_end lines least ranks c all own many zero s line here low = absurd (omega arith)
+falls_end lines least ranks c all own many (suc n) s line here low =
+    subst (λ o. RoundFits lines ((ok_or o (Malformed s.at) >>= (λ l. local_step_of c l.form s)) >>= outcome_after (round_outcome lines c n) s)) (sym here)
+    (ends_at lines least ranks c n s line.form own many (falls_end lines least ranks c all own many n) (all s.at line here) low)
 
 -- the rank of a line that falls is below the number of lines
 rank_low : (lines : List AlgorithmLine) (least : ℕ) (ranks : List ℕ) (place : ℕ) (form : LineKind) → 0 < length lines → form_falls lines least ranks place form ≡ true → rank_of (slice_index ranks place) form < length lines
 rank_low lines least ranks place (Access access) some f = some
 rank_low lines least ranks place (Done answer) some f = some
 rank_low lines least ranks place (Local local) some f =
-    ltb-true _ _ (right_of (ways_pass (is_below lines ranks (slice_index ranks place)) least (place + 1) local) (nat_lt (slice_index ranks place) (length lines)) f)
+    ltb-true _ _ (right_of (ways_pass (is_below lines ranks (slice_index ranks place)) (is_line_at lines) least (place + 1) local) (nat_lt (slice_index ranks place) (length lines)) f)
+
+-- each round ends, from every line
+round_fits : (a : Algorithm) (ranks : List ℕ) (c : Constants) → AllFall a.lines.items a.least ranks → c.me < c.procs → a.least ≤ c.procs
+    → (s : LocalState) (line : AlgorithmLine) → slice_get a.lines.items s.at ≡ Some line → RoundFits a.lines.items (round_outcome a.lines.items c (length a.lines.items) s)
+round_fits a ranks c all own many s line here =
+    falls_end a.lines.items a.least ranks c all own many (length a.lines.items) s line here
+    (rank_low a.lines.items a.least ranks s.at line.form (omega (arith, slice_get_within a.lines.items s.at line here)) (all s.at line here))
+
+line_of_test : (o : Option AlgorithmLine) → is_line o ≡ true → (line : AlgorithmLine) × (o ≡ Some line)
+line_of_test None h = absurd (cc)
+line_of_test (Some line) h = (line, refl)
+
+-- after a round that ends, where the next one does not come to a line that is not there
+by_round : (lines : List AlgorithmLine) (c : Constants) (rounds p : ℕ) (r : Result RoundOutcome AlgorithmRefusal) → RoundFits lines r
+    → ((at : ℕ) (t : LocalState) → is_line_at lines t.at ≡ true → further_rounds lines c rounds at t ≡ Err (Malformed p) → ⊥)
+    → (r >>= after_round (further_rounds lines c rounds)) ≡ Err (Malformed p) → ⊥
+by_round lines c rounds p (Ok (Arrives l)) fits rest e = cc
+by_round lines c rounds p (Ok (Repeats at next)) fits rest e = rest at next fits e
+by_round lines c rounds p (Err refusal) fits rest e = let same : refusal ≡ Malformed p = cc in fits p same
+
+further_end : (a : Algorithm) (ranks : List ℕ) (c : Constants) → AllFall a.lines.items a.least ranks → c.me < c.procs → a.least ≤ c.procs
+    → (rounds p at : ℕ) (s : LocalState) → is_line_at a.lines.items s.at ≡ true → further_rounds a.lines.items c rounds at s ≡ Err (Malformed p) → ⊥
+unfolding further_rounds
+further_end a ranks c all own many zero p at s there e = cc
+further_end a ranks c all own many (suc rounds) p at s there e =
+    let line = line_of_test (slice_get a.lines.items s.at) there in
+    by_round a.lines.items c rounds p (round_outcome a.lines.items c (length a.lines.items) s) (round_fits a ranks c all own many s line.0 line.1)
+    (further_end a ranks c all own many rounds p) e
 
 -- local lines that fall end
 pub all_end : (a : Algorithm) (ranks : List ℕ) → AllFall a.lines.items a.least ranks → LocalLinesEnd a
 all_end a ranks all = record {
   each = λ c s line p own many here e.
-      falls_end a.lines.items a.least ranks c all own many (length a.lines.items) p s line here
-      (rank_low a.lines.items a.least ranks s.at line.form (omega (arith, slice_get_within a.lines.items s.at line here)) (all s.at line here)) e;
+      by_round a.lines.items c most_local_rounds p (round_outcome a.lines.items c (length a.lines.items) s) (round_fits a ranks c all own many s line here)
+      (further_end a ranks c all own many most_local_rounds p) e;
 }
 
 is_there : (lines : List AlgorithmLine) (place : ℕ) (o : Option AlgorithmLine) → slice_get lines place ≡ o → is_line o ≡ true → place < length lines

@@ -7,6 +7,7 @@ pub mod Steps
 pub mod FirstWords
 pub mod Homes
 pub mod Worlds
+pub mod Claims
 pub mod Faults
 pub mod Ranked
 pub mod Deeds

@@ -1,6 +1,7 @@
--- Local lines that fall: each leads on to an access, to an end, or to a local line of lower rank. So no run of them goes round.
+-- Local lines that fall: each leads on to an access, to an end, to a local line of lower rank, or to the next round of its loop. So no
+-- run of them goes round within a round.
 use Rattle.std.specs.Prelude.{◌≡◌, ℕ, ◌+◌, ◌-◌, ◌<◌, ◌≤◌, nat_le, nat_lt, Bool, true, false, ◌&&◌, ◌||◌, List, length, slice_get, slice_index, Option, Some, None, Err}
-use Rattle.algorithms.specs.Arrivals.{arrives}
+use Rattle.algorithms.specs.Arrivals.{arrives, most_local_rounds}
 use Rattle.algorithms.specs.declared.algorithm.Algorithm.{Algorithm}
 use Rattle.algorithms.specs.declared.constants.Constants.{Constants}
 use Rattle.algorithms.specs.declared.expression.Expression.{Expression, Number, Private, Me, Procs, Limit, Joined'}
@@ -78,25 +79,30 @@ has_round least Higher = false
 has_round least (Up a b) = is_at_most (literal_of a) (least_value least b)
 has_round least (Down a b) = is_at_most (literal_of b) (least_value least a)
 
--- whether all places to which a local line may lead pass the test, with the place of the line after it
-abbrev pub ways_pass : (ℕ → Bool) → ℕ → ℕ → LocalLine → Bool
-ways_pass test least next (Assign name value) = test next
-ways_pass test least next (Note deed) = test next
-ways_pass test least next (Goto place) = test place
-ways_pass test least next (Branch condition otherwise) = test next && test otherwise
-ways_pass test least next (First name members after) = test next && (has_round least members || test after)
-ways_pass test least next (Next name members body) = test body && test next
+-- whether all places to which a local line may lead pass the test, with the place of the line after it. Where the next round of a
+-- loop begins has a test of its own
+abbrev pub ways_pass : (test begins : ℕ → Bool) → ℕ → ℕ → LocalLine → Bool
+ways_pass test begins least next (Assign name value) = test next
+ways_pass test begins least next (Note deed) = test next
+ways_pass test begins least next (Goto place) = test place
+ways_pass test begins least next (Branch condition otherwise) = test next && test otherwise
+ways_pass test begins least next (First name members after) = test next && (has_round least members || test after)
+ways_pass test begins least next (Next name members body) = begins body && test next
 
 abbrev pub is_line : Option AlgorithmLine → Bool
 is_line None = false
 is_line (Some line) = true
 
+-- whether there is a line at a place
+abbrev pub is_line_at : List AlgorithmLine → ℕ → Bool
+is_line_at lines place = is_line (slice_get lines place)
+
 -- whether a line of this form falls. After an access there is a line
 abbrev pub form_falls : List AlgorithmLine → ℕ → List ℕ → ℕ → LineKind → Bool
-form_falls lines least ranks place (Access line) = is_line (slice_get lines (place + 1))
+form_falls lines least ranks place (Access line) = is_line_at lines (place + 1)
 form_falls lines least ranks place (Done answer) = true
 form_falls lines least ranks place (Local line) =
-    ways_pass (is_below lines ranks (slice_index ranks place)) least (place + 1) line && nat_lt (slice_index ranks place) (length lines)
+    ways_pass (is_below lines ranks (slice_index ranks place)) (is_line_at lines) least (place + 1) line && nat_lt (slice_index ranks place) (length lines)
 
 -- with these ranks each line falls
 abbrev pub AllFall : List AlgorithmLine → ℕ → List ℕ → Type 0
@@ -105,7 +111,7 @@ AllFall lines least ranks = (place : ℕ) (line : AlgorithmLine) → slice_get l
 -- a run of local lines ends, from every line, with all names, in each world of the algorithm
 pub record LocalLinesEnd (a : Algorithm) : Type 0 where
   pub each : (c : Constants) (s : LocalState) (line : AlgorithmLine) (place : ℕ) → c.me < c.procs → a.least ≤ c.procs
-      → slice_get a.lines.items s.at ≡ Some line → arrives a.lines.items c (length a.lines.items) s ≡ Err (Malformed place) → ⊥
+      → slice_get a.lines.items s.at ≡ Some line → arrives a.lines.items c most_local_rounds s ≡ Err (Malformed place) → ⊥
 
 -- after each access there is a line, from which the step goes on
 pub record AccessesLeadOn (a : Algorithm) : Type 0 where

@@ -1,8 +1,8 @@
 -- One step of a process: one access, and the local lines after it.
-use Rattle.std.specs.Prelude.{ℕ, ◌+◌, ◌-◌, true, false, if◌then◌else◌, List, ◌++◌, length, take, replicate, slice_get, Option, Some, None, option_and_then, Result, Ok, ok_or}
+use Rattle.std.specs.Prelude.{ℕ, ◌+◌, ◌-◌, true, false, if◌then◌else◌, List, ◌++◌, take, replicate, slice_get, Option, Some, None, option_and_then, Result, Ok, ok_or}
 use Rattle.std.specs.Option.{option_or}
 use Rattle.algorithms.specs.Accesses.{access_of, access_after_read, names_after_read, passes}
-use Rattle.algorithms.specs.Arrivals.{Arrival, arrives, ◌>>=◌}
+use Rattle.algorithms.specs.Arrivals.{Arrival, arrives, most_local_rounds, ◌>>=◌}
 use Rattle.algorithms.specs.LocalRuns.{nothing_noted}
 use Rattle.algorithms.specs.declared.access.WordAccess.{WordAccess}
 use Rattle.algorithms.specs.declared.access.Address.{Address}
@@ -30,10 +30,10 @@ process_landed lasting s (Some answer) = record { place = Rest; store = lasting_
 abbrev pub move_of_arrival : ℕ → Arrival → Moved
 move_of_arrival lasting l = record { process = process_landed lasting l.state l.answer; noted = l.state.noted; answer = l.answer; blocked = false }
 
--- where a process comes to from a place by its local lines, with these names. No way among them has more lines than there are
+-- where a process comes to from a place by its local lines, with these names
 abbrev pub goes_on : Algorithm → Constants → ℕ → List ℕ → Result Moved AlgorithmRefusal
 goes_on a c at store = do
-  l ← arrives a.lines.items c (length a.lines.items) (record { at = at; store = store; noted = nothing_noted })
+  l ← arrives a.lines.items c most_local_rounds (record { at = at; store = store; noted = nothing_noted })
   Ok (move_of_arrival a.lasting l)
 
 -- a blocked reading leaves the process as it was

@@ -1,7 +1,7 @@
 -- The worlds of an algorithm, and what a start, a step and a crash of a process make of them.
 use Rattle.std.specs.Prelude.{ℕ, ◌^◌, nat_lt, nat_le, Bool, false, ◌&&◌, if◌then◌else◌, List, length, replicate, slice_get, slice_set, Option, Some, None, Result, Ok, Err, ok_or}
 use Rattle.algorithms.specs.Accesses.{access_of}
-use Rattle.algorithms.specs.Arrivals.{arrives, line_at, ◌>>=◌}
+use Rattle.algorithms.specs.Arrivals.{arrives, line_at, most_local_rounds, ◌>>=◌}
 use Rattle.algorithms.specs.FirstWords.{first_rows, has_all_values, rows_at_beginning}
 use Rattle.algorithms.specs.LocalRuns.{nothing_noted}
 use Rattle.algorithms.specs.Steps.{lasting_names, step_before_access, advance_of}
@@ -184,7 +184,7 @@ begun_at s (Some answer) = Err (Malformed s.at)
 -- where a process comes to from the place at which its call begins
 abbrev pub begun_from : Algorithm → Constants → ℕ → List ℕ → Result AlgorithmProcess AlgorithmRefusal
 begun_from a c entry store = do
-  l ← arrives a.lines.items c (length a.lines.items) (record { at = entry; store = store; noted = nothing_noted })
+  l ← arrives a.lines.items c most_local_rounds (record { at = entry; store = store; noted = nothing_noted })
   begun_at l.state l.answer
 
 -- what the start of a call makes of a process. Of its names those that last are left

@@ -6,6 +6,16 @@ ghost use Rattle.algorithms.specs.Worlds.{entry_of};
 use crate::access::Address;
 use crate::expression::Expression;
 use crate::line::AlgorithmLine;
+use crate::never_claim::NeverClaim;
+
+/// What an algorithm promises of calls under way, where each process goes on taking steps.
+#[derive(Clone, Copy, Debug, PartialEq, Eq)]
+pub enum ProgressPromise {
+    /// While a call is under way somebody enters again and again, unless all calls end.
+    DeadlockFreedom,
+    /// Each call ends.
+    StarvationFreedom,
+}
 
 /// What an algorithm promises beside mutual exclusion.
 #[derive(Clone, Copy, Debug, PartialEq, Eq)]
@@ -20,6 +30,8 @@ pub struct Promises {
     pub recovery: Option<u64>,
     /// The most own steps of a doorway, where they are bounded.
     pub doorway: Option<u64>,
+    /// What becomes of calls under way, where it is promised.
+    pub progress: Option<ProgressPromise>,
 }
 
 /// A constant of a text: a name for a value of numbers, `procs` and `limit`. Where it stood in a line, its value stands there.
@@ -101,4 +113,8 @@ pub struct Algorithm {
     pub answers: Vec<String>,
     pub lines: Vec<AlgorithmLine>,
     pub entries: Entries,
+    /// What never holds.
+    pub claims: Vec<NeverClaim>,
+    /// The places of the labels that claims name: that of the first access below each, or how many lines there are where none is.
+    pub label_places: Vec<usize>,
 }

@@ -15,8 +15,10 @@ mod first_rows;
 pub mod first_values;
 mod first_words;
 mod homes;
+pub mod known_values;
 pub mod line;
 mod local;
+pub mod never_claim;
 pub mod noted;
 pub mod process;
 mod process_step;
@@ -26,7 +28,8 @@ pub mod world;
 
 pub use access::{Address, Advanced, Moved, Taken, WordAccess};
 pub use algorithm::{
-    Algorithm, AlgorithmCall, Declaration, Entries, Extent, NamedConstant, Promises,
+    Algorithm, AlgorithmCall, Declaration, Entries, Extent, NamedConstant, ProgressPromise,
+    Promises,
 };
 pub use condition::{Comparison, Condition, Pair};
 pub use constants::{Constants, MOST_PROCS};
@@ -36,6 +39,7 @@ pub use first_values::{FirstValues, InitializedAlgorithm};
 pub use line::{
     AccessLine, Action, AlgorithmDeed, AlgorithmLine, LineKind, LocalLine, Members, WordOf,
 };
+pub use never_claim::{ClaimedPhase, NeverClaim, StateFact};
 pub use noted::NotedDeeds;
 pub use process::{AlgorithmPlace, AlgorithmProcess};
 pub use refusal::AlgorithmRefusal;

@@ -2,7 +2,7 @@
 
 ghost use Rattle.std.specs.Prelude.{◌≡◌, ◌<◌, Some, None, Ok, Err, IfOk, IfErr, IfSome, length, slice_set};
 ghost use Rattle.algorithms.specs.LocalRuns.{at_place, with_value, with_deed, least_from, end_value, first_number, number_after, round_at, local_line_done};
-ghost use Rattle.algorithms.specs.Arrivals.{local_step_at, arrives, landing, IsDone};
+ghost use Rattle.algorithms.specs.Arrivals.{local_step_at, is_way_back, round_outcome, arrives, landing, most_local_rounds, IsDone, IsRoundEnd};
 
 use crate::constants::Constants;
 use crate::expression::{Expression, NAMES};
@@ -18,13 +18,25 @@ pub struct LocalState {
     pub noted: NotedDeeds,
 }
 
-/// What one line does to a process between two accesses: it goes on, or the line is an access, or with an answer the end of the
-/// call.
+/// What one line does to a process between two accesses: it goes on, or begins the next round of its loop, or the line is an
+/// access, or with an answer the end of the call.
 #[derive(Clone, Copy)]
 pub enum LineStep {
     GoesOn,
+    GoesBack,
     Stops(Option<usize>),
 }
+
+/// How the local lines of one round end: the process stops as at a line, or the line at a place begins the next round of its
+/// loop.
+#[derive(Clone, Copy)]
+pub enum RoundEnd {
+    Stops(Option<usize>),
+    Repeats(usize),
+}
+
+/// How many further rounds of loops may come between two accesses.
+const MOST_LOCAL_ROUNDS: u64 = 1_000_000;
 
 /// Sets a private name. An index that is no name changes nothing.
 #[tactic(auto, using(std::proofs::lemmas::List::set_past))]
@@ -200,6 +212,20 @@ impl LocalState {
     }
 }
 
+/// Whether a line that has led to this place begins the next round of its loop.
+fn is_way_back(line: &LocalLine, at: usize) -> bool
+    ensures { result ≡ is_way_back line.now at }
+{
+    match line {
+        LocalLine::Next { body, .. } => *body == at,
+        LocalLine::Assign { .. }
+        | LocalLine::Note(_)
+        | LocalLine::Goto(_)
+        | LocalLine::Branch { .. }
+        | LocalLine::First { .. } => false,
+    }
+}
+
 /// Does the line at which the process is. At a line that is not local it changes nothing.
 fn do_line(
     lines: &[AlgorithmLine],
@@ -218,30 +244,63 @@ fn do_line(
         LineKind::Access(_) => Ok(LineStep::Stops(None)),
         LineKind::Done(answer) => Ok(LineStep::Stops(Some(*answer))),
         LineKind::Local(local) => match state.do_local(local, constants, at + 1) {
-            Some(()) => Ok(LineStep::GoesOn),
+            Some(()) => {
+                if is_way_back(local, state.at) {
+                    Ok(LineStep::GoesBack)
+                } else {
+                    Ok(LineStep::GoesOn)
+                }
+            }
             None => Err(AlgorithmRefusal::OutOfRange { place: at }),
         },
     }
 }
 
+/// Goes on by local lines to the end of a round. `Malformed` where it does as many lines as there are and has not come to one.
+fn end_round(
+    lines: &[AlgorithmLine],
+    constants: Constants,
+    state: &mut LocalState,
+) -> Result<RoundEnd, AlgorithmRefusal>
+    requires { constants.me < constants.procs }
+    ensures ended { IfOk result (λ end. IsRoundEnd (round_outcome lines.now constants (length lines.now) state.old) end state.new) }
+    ensures refused { IfErr result (λ e. round_outcome lines.now constants (length lines.now) state.old ≡ Err e) }
+{
+    let mut left = lines.len();
+    while left > 0 {
+        let at = state.at;
+        match do_line(lines, constants, state)? {
+            LineStep::GoesOn => {}
+            LineStep::GoesBack => return Ok(RoundEnd::Repeats(at)),
+            LineStep::Stops(answer) => return Ok(RoundEnd::Stops(answer)),
+        }
+        left -= 1;
+    }
+    Err(AlgorithmRefusal::Malformed { place: state.at })
+}
+
 /// Goes on by the local lines of a process to where it stops: before an access, or at the end of its call, with its answer.
-/// `Malformed` where it does as many lines as there are and has not come to one.
+/// `OutOfRange` at the end of a loop that would begin one round too many.
+#[tactic(auto, using(crate::proofs::LocalRounds::one_further, crate::proofs::LocalRounds::none_further))]
 pub(crate) fn arrive(
     lines: &[AlgorithmLine],
     constants: Constants,
     state: &mut LocalState,
 ) -> Result<Option<usize>, AlgorithmRefusal>
     requires { constants.me < constants.procs }
-    ensures stops { IfOk result (λ answer. arrives lines.now constants (length lines.now) state.old ≡ Ok (landing answer state.new)) }
-    ensures refused { IfErr result (λ e. arrives lines.now constants (length lines.now) state.old ≡ Err e) }
+    ensures stops { IfOk result (λ answer. arrives lines.now constants most_local_rounds state.old ≡ Ok (landing answer state.new)) }
+    ensures refused { IfErr result (λ e. arrives lines.now constants most_local_rounds state.old ≡ Err e) }
 {
-    let mut left = lines.len();
-    while left > 0 {
-        match do_line(lines, constants, state)? {
-            LineStep::GoesOn => {}
-            LineStep::Stops(answer) => return Ok(answer),
+    let mut rounds = MOST_LOCAL_ROUNDS;
+    while rounds > 0 {
+        match end_round(lines, constants, state)? {
+            RoundEnd::Stops(answer) => return Ok(answer),
+            RoundEnd::Repeats(_) => {}
         }
-        left -= 1;
+        rounds -= 1;
     }
-    Err(AlgorithmRefusal::Malformed { place: state.at })
+    match end_round(lines, constants, state)? {
+        RoundEnd::Stops(answer) => Ok(answer),
+        RoundEnd::Repeats(place) => Err(AlgorithmRefusal::OutOfRange { place }),
+    }
 }

@@ -17,8 +17,8 @@ pub enum AlgorithmRefusal {
     NothingToDo,
     NotWaiting,
     NoSuchCall,
-    /// At the line of this place, a value is no number of 64 bits, an index no process, a store above its bound, or a deed
-    /// the fourth of its step.
+    /// At the line of this place, a value is no number of 64 bits, an index no process, a store above its bound, a deed the
+    /// fourth of its step, or a round of a loop one too many without an access.
     OutOfRange { place: usize },
     /// The algorithm itself is wrong here: a line or a word that is not there, a call that ends before its first step, or
     /// local lines that go round. No algorithm that was read meets it.

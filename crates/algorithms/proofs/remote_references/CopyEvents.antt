@@ -1,12 +1,12 @@
 -- Copies after one more event, from what is done to their rows.
-use Rattle.std.proofs.Common.{◌≡◌, ◌∙◌, ℕ, ◌*◌, ◌<◌, Bool, false, List, [], ◌∷◌, ◌++◌, length, replicate, ◌==◌, sym, ap, subst, arith}
+use Rattle.std.proofs.Common.{◌≡◌, ◌∙◌, ℕ, ◌*◌, ◌<◌, Bool, true, false, List, [], ◌∷◌, ◌++◌, length, replicate, ◌==◌, sym, ap, subst, arith}
 use Rattle.std.specs.Int.{bit_at}
 use Rattle.std.proofs.lemmas.List.{get_or-replicate, length-replicate}
 use Rattle.std.proofs.lemmas.Nat.Bits.{bit_at-zero}
 use Rattle.algorithms.specs.declared.access.Address.{Address}
 use Rattle.algorithms.specs.declared.access.WordAccess.{WordAccess}
 use Rattle.algorithms.specs.declared.remote_references.memory_event.MemoryEvent.{MemoryEvent}
-use Rattle.algorithms.specs.declared.remote_references.memory_event.MemoryEvent.TheVariants.{Access, Crash}
+use Rattle.algorithms.specs.declared.remote_references.memory_event.MemoryEvent.TheVariants.{Access, Crash, CrashAll}
 use Rattle.algorithms.specs.remote_references.Copies.{copy_changes, crash_change, exclusive_changes, has_copy, has_exclusive_copy, last_or}
 use Rattle.algorithms.specs.remote_references.CopyRows.{AreCopiesAfter, AreRowsOf, CopyRows, bit_of, row_number}
 use Rattle.algorithms.proofs.remote_references.Changes.{copy_more, exclusive_more}
@@ -61,3 +61,10 @@ pub noted_crash : (declarations : ℕ) (run : List MemoryEvent) (old new : CopyR
     → AreCopiesAfter declarations (run ++ Crash p ∷ []) new
 noted_crash declarations run old new p before held_long held exclusive_long exclusive =
     event_noted declarations run (Crash p) old new before held_long held exclusive_long exclusive
+
+pub noted_crash_all : (declarations : ℕ) (run : List MemoryEvent) (old new : CopyRows) → AreCopiesAfter declarations run old
+    → length new.held ≡ length old.held → ((holds : Address → ℕ → Bool) → AreRowsOf old.held holds → AreRowsOf new.held (λ word q. last_or (holds word q) (crash_change true)))
+    → length new.exclusive ≡ length old.exclusive → ((holds : Address → ℕ → Bool) → AreRowsOf old.exclusive holds → AreRowsOf new.exclusive (λ word q. last_or (holds word q) (crash_change true)))
+    → AreCopiesAfter declarations (run ++ CrashAll ∷ []) new
+noted_crash_all declarations run old new before held_long held exclusive_long exclusive =
+    event_noted declarations run CrashAll old new before held_long held exclusive_long exclusive

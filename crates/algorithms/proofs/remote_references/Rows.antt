@@ -2,6 +2,7 @@
 use Rattle.std.proofs.Common.{◌≡◌, ◌≢◌, ◌∙◌, ℕ, ◌+◌, ◌*◌, ◌<◌, ◌≤◌, Bool, true, false, ◌&&◌, ◌==◌, if◌then◌else◌, List, [], length, get_or, set, slice_index, slice_set, get_or-set_same, get_or-set_other, below_more, sym, refl, ap, ap₂, subst, inl, inr, arith, eq-eqb, ne_eqb}
 use Rattle.std.proofs.lemmas.Bool.{cases_eq}
 use Rattle.std.proofs.lemmas.List.{length-set}
+use Rattle.std.proofs.lemmas.Nat.Bits.{bit_at-zero}
 use Rattle.std.specs.Int.{bit_at}
 use Rattle.algorithms.specs.declared.access.Address.{Address}
 use Rattle.algorithms.specs.declared.access.WordAccess.{WordAccess}
@@ -111,3 +112,20 @@ cleared_more rows old p j v lj h clears =
 pub all_cleared : (rows old : List ℕ) (p j : ℕ) (holds : Address → ℕ → Bool) → length rows ≤ j → AreCleared rows old p j → AreRowsOf old holds
     → AreRowsOf rows (λ word q. last_or (holds word q) (crash_change (p == q)))
 all_cleared rows old p j holds all h before word within q l = h.first (row_number word) (omega (arith, within.1, all)) (holds word) (before word (within.0, omega (arith, within.1, h.all))) q l
+
+-- ---- a crash of all
+
+-- the first j rows are empty
+pub record AreEmpty (rows old : List ℕ) (j : ℕ) : Type 0 where
+  pub all : length rows ≡ length old
+  pub first : (k : ℕ) → k < j → get_or rows k 0 ≡ 0
+
+pub empty_more : (rows old : List ℕ) (j : ℕ) → j < length rows → AreEmpty rows old j → AreEmpty (set rows j 0) old (j + 1)
+empty_more rows old j lj h =
+    record {
+      all = length-set rows j 0 ∙ h.all;
+      first = below_more (λ k. get_or (set rows j 0) k 0 ≡ 0) j (λ k l. let ne : k ≢ j = omega arith in rw get_or-set_other (h.first k l)) (rw get_or-set_same refl);
+    }
+
+pub all_empty : (rows old : List ℕ) (j : ℕ) (holds : Address → ℕ → Bool) → length rows ≤ j → AreEmpty rows old j → AreRowsOf rows (λ word q. last_or (holds word q) (crash_change true))
+all_empty rows old j holds all h word within q l = ap (λ row. bit_at row q) (h.first (row_number word) (omega (arith, within.1, all))) ∙ bit_at-zero q

@@ -5,7 +5,7 @@ use Rattle.std.specs.List.{flat_map}
 use Rattle.algorithms.specs.declared.access.Address.{Address}
 use Rattle.algorithms.specs.declared.access.WordAccess.{WordAccess}
 use Rattle.algorithms.specs.declared.remote_references.memory_event.MemoryEvent.{MemoryEvent}
-use Rattle.algorithms.specs.declared.remote_references.memory_event.MemoryEvent.TheVariants.{Access, Crash}
+use Rattle.algorithms.specs.declared.remote_references.memory_event.MemoryEvent.TheVariants.{Access, Crash, CrashAll}
 
 -- A swap counts as a store also where its guard does not hold: it needs its word for itself
 abbrev pub stores_or_swaps : WordAccess → Bool
@@ -36,11 +36,13 @@ crash_change false = []
 abbrev pub copy_changes : ℕ → Address → MemoryEvent → List Bool
 copy_changes p word (Access q access) = if is_same_word access.address word then copy_change (q == p) (stores_or_swaps access) else []
 copy_changes p word (Crash q) = crash_change (q == p)
+copy_changes p word CrashAll = crash_change true
 
 -- what it does to p's exclusive copy
 abbrev pub exclusive_changes : ℕ → Address → MemoryEvent → List Bool
 exclusive_changes p word (Access q access) = if is_same_word access.address word then exclusive_change (q == p) (stores_or_swaps access) else []
 exclusive_changes p word (Crash q) = crash_change (q == p)
+exclusive_changes p word CrashAll = crash_change true
 
 -- the last of the changes, or what was before them
 abbrev pub last_or : Bool → List Bool → Bool

@@ -5,7 +5,7 @@ use Rattle.std.specs.Prelude.{◌≡◌, ℕ, ◌+◌, ◌≤◌, Bool, true, fa
 use Rattle.std.specs.List.{flat_map}
 use Rattle.algorithms.specs.declared.access.Address.{Address}
 use Rattle.algorithms.specs.declared.remote_references.memory_event.MemoryEvent.{MemoryEvent}
-use Rattle.algorithms.specs.declared.remote_references.memory_event.MemoryEvent.TheVariants.{Access, Crash}
+use Rattle.algorithms.specs.declared.remote_references.memory_event.MemoryEvent.TheVariants.{Access, Crash, CrashAll}
 use Rattle.algorithms.specs.declared.remote_references.memory_model.MemoryModel.{MemoryModel}
 use Rattle.algorithms.specs.declared.remote_references.memory_model.PassageKind.{PassageKind}
 use Rattle.algorithms.specs.declared.remote_references.memory_model.PassageKind.TheVariants.{Passage, SuperPassage}
@@ -38,6 +38,7 @@ pub record CostMeasure : Type 0 where
 abbrev pub memory_cost : CostMeasure → List MemoryEvent → MemoryEvent → ℕ
 memory_cost m run (Access p access) = if (p == m.process) && is_remote m.model (m.homes access.address) run p access then 1 else 0
 memory_cost m run (Crash p) = 0
+memory_cost m run CrashAll = 0
 
 abbrev pub cost_of_event : CostMeasure → List CallEvent → CallEvent → ℕ
 cost_of_event m run (Starts p) = 0
@@ -59,6 +60,7 @@ abbrev pub ends_passage : PassageKind → ℕ → CallEvent → Bool
 ends_passage kind p (Starts q) = false
 ends_passage kind p (Does (Access q access) leaves) = (q == p) && leaves
 ends_passage kind p (Does (Crash q) leaves) = (q == p) && ends_by_crash kind
+ends_passage kind p (Does CrashAll leaves) = ends_by_crash kind
 
 -- no event before the last ends it
 abbrev pub EndsAtLast : PassageKind → ℕ → List CallEvent → Type 0

@@ -7,7 +7,9 @@ ghost use Rattle.algorithms.specs.remote_references.RemoteReferences.{has_copy_f
 use crate::access::WordAccess;
 use crate::remote_references::memory_event::MemoryEvent;
 use crate::remote_references::memory_model::MemoryModel;
-use crate::remote_references::process_rows::{has_in, note_exclusive, note_held, remove_process};
+use crate::remote_references::process_rows::{
+    clear_rows, has_in, note_exclusive, note_held, remove_process,
+};
 use std::alloc::{AllocError, Global};
 use std::marker::Model;
 
@@ -63,6 +65,10 @@ impl Copies {
             MemoryEvent::Crash(p) => {
                 remove_process(self.held.as_mut_slice(), p);
                 remove_process(self.exclusive.as_mut_slice(), p);
+            }
+            MemoryEvent::CrashAll => {
+                clear_rows(self.held.as_mut_slice());
+                clear_rows(self.exclusive.as_mut_slice());
             }
         }
     }

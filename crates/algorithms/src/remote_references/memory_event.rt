@@ -12,6 +12,8 @@ pub enum MemoryEvent {
     Access(u64, WordAccess),
     /// A process crashes.
     Crash(u64),
+    /// Every process crashes.
+    CrashAll,
 }
 
 impl WordAccess {

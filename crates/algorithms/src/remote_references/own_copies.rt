@@ -114,6 +114,7 @@ impl OwnCopies {
                     zero_all(self.words.as_mut_slice());
                 }
             }
+            MemoryEvent::CrashAll => zero_all(self.words.as_mut_slice()),
         }
     }
 

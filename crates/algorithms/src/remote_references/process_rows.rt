@@ -1,6 +1,6 @@
 //! Rows of bits: process q is in a row where bit q is set.
 
-ghost use Rattle.std.specs.Prelude.{◌≡◌, ℕ, ◌<◌, Bool, ◌==◌, length, IfNone, IfSome};
+ghost use Rattle.std.specs.Prelude.{◌≡◌, ℕ, ◌<◌, Bool, true, ◌==◌, length, IfNone, IfSome};
 ghost use Rattle.algorithms.specs.declared.remote_references.memory_event.MemoryEvent.TheVariants.{Access, Crash};
 ghost use Rattle.algorithms.specs.remote_references.Copies.{copy_change, copy_changes, crash_change, exclusive_change, exclusive_changes, last_or};
 ghost use Rattle.algorithms.specs.remote_references.CopyRows.{AreBitsOf, AreRowsOf, IsRowOf, row_number};
@@ -111,5 +111,16 @@ pub(crate) fn remove_process(rows: &mut [u64], p: u64)
 {
     for row in rows.iter_mut() {
         *row = row_without(*row, p);
+    }
+}
+
+/// Takes every process out of each row.
+pub(crate) fn clear_rows(rows: &mut [u64])
+    ensures long { length rows.new ≡ length rows.old }
+    ensures rows { (holds : Address → ℕ → Bool) → AreRowsOf rows.old holds
+        → AreRowsOf rows.new (λ word q. last_or (holds word q) (crash_change true)) }
+{
+    for row in rows.iter_mut() {
+        *row = 0;
     }
 }

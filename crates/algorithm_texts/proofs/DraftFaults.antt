@@ -15,7 +15,7 @@ use Rattle.algorithm_texts.specs.FinishedDrafts.{with_lines, call_in, kind_led, 
 use Rattle.algorithm_texts.specs.Lawful.{KindFits, NotesDeed}
 use Rattle.algorithm_texts.specs.Programs.{SpellsDraft, meaning_of, program_lines}
 use Rattle.algorithm_texts.specs.Runs.{AllRuns}
-use Rattle.algorithm_texts.specs.TextFaults.{OrMemory, KindCallFits, IsOfFirst, IsFaultOfKindCall, IsFaultOfWithdraw, IsFaultOfAllCalls, all_kinds, has_both_calls, IsFaultOfAllRuns, IsFaultOfWays, IsFaultOfEither, IsFaultOfDeeds, IsFaultOfFlow, IsFaultOfLater, IsFaultOfLines, IsFaultOfText, number_of_kind}
+use Rattle.algorithm_texts.specs.TextFaults.{OrMemory, KindCallFits, IsOfFirst, IsFaultOfKindCall, IsFaultOfWithdraw, IsFaultOfAllCalls, all_kinds, has_both_calls, IsFaultOfAllRuns, IsFaultOfWays, IsFaultOfEither, IsFaultOfDeeds, IsFaultOfFitting, IsFaultOfFlow, IsFaultOfLater, IsFaultOfLines, IsFaultOfText, number_of_kind}
 use Rattle.algorithm_texts.specs.UnreachedLines.{EndUnreached}
 use Rattle.algorithm_texts.proofs.BlockTrees.{some_of}
 use Rattle.algorithm_texts.proofs.TreeLines.{program_read}
@@ -119,8 +119,8 @@ unread_fault text fault (inl e) = inl e
 unread_fault text fault (inr (inl line)) = inr (inl line)
 unread_fault text fault (inr (inr later)) = inr (inr (inl later))
 
--- what runs of a spelled draft may do
-pub spelled_fault : (text : List ℕ) (d : Drafted) (fault : AlgorithmFault) → SpellsDraft text d → IsFaultOfFlow d fault → IsFaultOfText text fault
+-- the labels of claims of a spelled draft, and what its runs may do
+pub spelled_fault : (text : List ℕ) (d : Drafted) (fault : AlgorithmFault) → SpellsDraft text d → IsFaultOfFitting d fault → IsFaultOfText text fault
 spelled_fault text d fault s h =
     let x = some_of (meaning_of s.program) finished_draft d s.means in
     inr (inr (x.0, (program_lines s.program, s.says, program_read s.program x.0 x.1), inr (d, x.2, s.fit, h)))

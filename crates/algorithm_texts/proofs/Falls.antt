@@ -1,5 +1,5 @@
 -- The local lines of an algorithm whose calls run as they may end.
-use Rattle.std.proofs.Common.{◌≡◌, ℕ, zero, suc, ◌+◌, ◌<◌, ◌≤◌, Bool, true, false, cond, ◌&&◌, ◌||◌, ltb, eqb, List, [], ◌∷◌, length, get_or, Option, Some, None, slice_get, refl, sym, ap, ◌∙◌, subst, inl, inr, arith}
+use Rattle.std.proofs.Common.{◌≡◌, ℕ, zero, suc, ◌+◌, ◌<◌, ◌≤◌, Bool, true, false, cond, not, ◌&&◌, ◌||◌, ltb, eqb, List, [], ◌∷◌, length, get_or, Option, Some, None, slice_get, refl, sym, ap, ◌∙◌, subst, inl, inr, arith}
 use Rattle.std.specs.List.{list_all}
 use Rattle.std.specs.Option.{option_map}
 use Rattle.std.proofs.lemmas.Bool.{false≢true, lt-ltb, eqb-true, eq-eqb}
@@ -15,17 +15,18 @@ use Rattle.algorithms.specs.declared.line.LocalLine.TheVariants.{Assign, Note, G
 use Rattle.algorithms.specs.declared.expression.Expression.{Expression, Number, Private, Me, Procs, Limit, Joined'}
 use Rattle.algorithms.specs.declared.line.Members.{Members}
 use Rattle.algorithms.specs.declared.line.Members.TheVariants.{All as AllMembers, Others, Lower, Higher, Up, Down}
-use Rattle.algorithms.specs.Ranked.{rank_of, is_below, is_line_below, literal_of, least_joined, least_value, is_at_most, has_round, ways_pass, is_line, form_falls, AllFall, LocalLinesEnd, AccessesLeadOn}
+use Rattle.algorithms.specs.Ranked.{rank_of, is_below, is_line_below, literal_of, least_joined, least_value, is_at_most, has_round, ways_pass, is_line, is_line_at, form_falls, AllFall, LocalLinesEnd, AccessesLeadOn}
 use Rattle.algorithms.proofs.Ranked.{all_end, all_lead}
-use Rattle.algorithm_texts.specs.declared.flow.RunKind.TheVariants.{All}
+use Rattle.algorithm_texts.specs.declared.flow.RunKind.TheVariants.{Forward}
 use Rattle.algorithm_texts.specs.declared.lines.CallRead.{CallRead}
 use Rattle.algorithm_texts.specs.Parts.{term_of}
 use Rattle.algorithm_texts.specs.Drafts.{members_form, Ending, PlacedLine, Drafted, form_of, line_of, lines_of, local_form}
 use Rattle.algorithm_texts.specs.FinishedDrafts.{literal_in, least_term, loop_has_round, call_in, is_in, is_way, ways}
-use Rattle.algorithm_texts.specs.Runs.{ways_after, leads_to, RunsFit, RunsComeTo}
+use Rattle.algorithm_texts.specs.Runs.{forward_ways, ways_after, leads_to, RunsFit, RunsComeTo}
 use Rattle.algorithm_texts.specs.UnreachedLines.{line_stays, lines_stay, ended_line, ended_from, EndUnreached}
+use Rattle.algorithm_texts.proofs.RoundMarks.{forward_is_way}
 use Rattle.algorithm_texts.proofs.RunMarks.{both_true, true_or_false, or_left, or_right, either}
-use Rattle.algorithm_texts.proofs.Heights.{draft_ranks, draft_ways, draft_local, local_where, is_local_form, rank_is, rank_falls, rank_few, line_within}
+use Rattle.algorithm_texts.proofs.Heights.{draft_ranks, draft_ways, draft_local, local_where, is_local_form, local_silent, rank_is, rank_falls, rank_few, line_within}
 
 -- ---- tests of all ways
 
@@ -71,16 +72,16 @@ same_round least (Down a b) =
     let y = least_same least a in
     (λ i. is_at_most (x i) (y i))
 
--- a test that all ways pass
-ways_all : (test : ℕ → Bool) (least next : ℕ) (l : LocalLine) → ((w : ℕ) → leads_to (ways least next (local_form l)) w ≡ true → test w ≡ true)
-    → ways_pass test least next l ≡ true
-ways_all test least next (Assign name value) h = h next (first_leads next [])
-ways_all test least next (Note deed) h = h next (first_leads next [])
-ways_all test least next (Goto place) h = h place (first_leads place [])
-ways_all test least next (Branch condition otherwise) h =
+-- a test that holds of all ways but a loop's way back, and one that holds of that
+ways_all : (test begins : ℕ → Bool) (least next : ℕ) (l : LocalLine) → ((w : ℕ) → leads_to (forward_ways least next (local_form l)) w ≡ true → test w ≡ true)
+    → ((w : ℕ) → leads_to (ways least next (local_form l)) w ≡ true → begins w ≡ true) → ways_pass test begins least next l ≡ true
+ways_all test begins least next (Assign name value) h back = h next (first_leads next [])
+ways_all test begins least next (Note deed) h back = h next (first_leads next [])
+ways_all test begins least next (Goto place) h back = h place (first_leads place [])
+ways_all test begins least next (Branch condition otherwise) h back =
     and_true (test next) (test otherwise) (h next (first_leads next (otherwise ∷ [])))
     (h otherwise (or_right (eqb next otherwise) (leads_to (otherwise ∷ []) otherwise) (first_leads otherwise [])))
-ways_all test least next (First name members after) h = elim (true_or_false (has_round least members)) [
+ways_all test begins least next (First name members after) h back = elim (true_or_false (has_round least members)) [
   | inl t ↦
       let f : (w : ℕ) → leads_to (next ∷ []) w ≡ true → test w ≡ true = λ w k. h w (ap (λ b. leads_to (cond b (next ∷ []) (next ∷ (after ∷ []))) w) (same_round least members ∙ t) ∙ k) in
       and_true (test next) (has_round least members || test after) (f next (first_leads next [])) (or_left (has_round least members) (test after) t)
@@ -89,9 +90,8 @@ ways_all test least next (First name members after) h = elim (true_or_false (has
       and_true (test next) (has_round least members || test after) (f next (first_leads next (after ∷ [])))
       (or_right (has_round least members) (test after) (f after (or_right (eqb next after) (leads_to (after ∷ []) after) (first_leads after []))))
 ]
-ways_all test least next (Next name members body) h =
-    and_true (test body) (test next) (h body (first_leads body (next ∷ [])))
-    (h next (or_right (eqb body next) (leads_to (next ∷ []) next) (first_leads next [])))
+ways_all test begins least next (Next name members body) h back =
+    and_true (begins body) (test next) (back body (first_leads body (next ∷ []))) (h next (first_leads next []))
 
 pub all_leads : (test : ℕ → Bool) (ws : List ℕ) (w : ℕ) → list_all test ws ≡ true → leads_to ws w ≡ true → test w ≡ true
 all_leads test [] w h k = absurd (false≢true k)
@@ -177,10 +177,12 @@ draft_local_at : (d : Drafted) (at : ℕ) (old : PlacedLine) → slice_get d.lin
 unfolding draft_local local_where
 draft_local_at d at old s h = ap local_where s ∙ h
 
-draft_leads_at : (d : Drafted) (at w : ℕ) (old : PlacedLine) → slice_get d.lines at ≡ Some old → leads_to (ways d.head.least (at + 1) old.form) w ≡ true
+draft_leads_at : (d : Drafted) (at w : ℕ) (old : PlacedLine) → slice_get d.lines at ≡ Some old → is_local_form old.form ≡ true → leads_to (forward_ways d.head.least (at + 1) old.form) w ≡ true
     → leads_to (draft_ways d at) w ≡ true
 unfolding draft_ways
-draft_leads_at d at w old s h = ap (λ o. leads_to (ways_after d.head.least All at o) w) s ∙ h
+draft_leads_at d at w old s local h =
+    ap (λ o. leads_to (ways_after d.head.least Forward at o) w) s
+    ∙ ap (λ b. leads_to (cond (not b) (forward_ways d.head.least (at + 1) old.form) []) w) (local_silent old.form local) ∙ h
 
 -- a line to which a run comes falls
 reached_falls : (d : Drafted) (lines : List AlgorithmLine) (marks : List Bool) → CallRuns d → length lines ≡ length d.lines → ((at : ℕ) → is_in marks at ≡ true → RunsComeTo d at)
@@ -199,15 +201,22 @@ reached_falls d lines marks runs size comes place old s marked stays line (Local
     let here = come_within d runs place c in
     let rank = rank_is d place here in
     let few = rank_few d c.1.0 fit.stays fit.returns place c.1.2 in
-    let local = draft_local_at d place old s (subst (λ f. is_local_form f ≡ true) e (local_is l)) in
-    and_true (ways_pass (is_below lines (draft_ranks d) (get_or (draft_ranks d) place 0)) d.head.least (place + 1) l) (ltb (get_or (draft_ranks d) place 0) (length lines))
-    (ways_all (is_below lines (draft_ranks d) (get_or (draft_ranks d) place 0)) d.head.least (place + 1) l
+    let is_local = subst (λ f. is_local_form f ≡ true) e (local_is l) in
+    let local = draft_local_at d place old s is_local in
+    let reached : (w : ℕ) → leads_to (ways d.head.least (place + 1) old.form) w ≡ true → w < length d.lines = λ w way.
+    come_within d runs w (comes w (all_leads (is_in marks) (ways d.head.least (place + 1) old.form) w stays way)) in
+    and_true (ways_pass (is_below lines (draft_ranks d) (get_or (draft_ranks d) place 0)) (is_line_at lines) d.head.least (place + 1) l) (ltb (get_or (draft_ranks d) place 0) (length lines))
+    (ways_all (is_below lines (draft_ranks d) (get_or (draft_ranks d) place 0)) (is_line_at lines) d.head.least (place + 1) l
+    (λ w leads.
+    let way : leads_to (forward_ways d.head.least (place + 1) old.form) w ≡ true = subst (λ f. leads_to (forward_ways d.head.least (place + 1) f) w ≡ true) e leads in
+    let there = reached w (forward_is_way d.head.least (place + 1) old.form w way) in
+    let low = rank_falls d c.1.0 fit.stays fit.returns place w c.1.2 local (draft_leads_at d place w old s is_local way) in
+    let low_rank = rank_is d w there in
+    below_where lines (draft_ranks d) (get_or (draft_ranks d) place 0) w line (omega (arith, size, there)) (omega (arith, rank, low_rank, low)))
     (λ w leads.
     let way : leads_to (ways d.head.least (place + 1) old.form) w ≡ true = subst (λ f. leads_to (ways d.head.least (place + 1) f) w ≡ true) e leads in
-    let there = come_within d runs w (comes w (all_leads (is_in marks) (ways d.head.least (place + 1) old.form) w stays way)) in
-    let low = rank_falls d c.1.0 fit.stays fit.returns place w c.1.2 local (draft_leads_at d place w old s way) in
-    let low_rank = rank_is d w there in
-    below_where lines (draft_ranks d) (get_or (draft_ranks d) place 0) w line (omega (arith, size, there)) (omega (arith, rank, low_rank, low))))
+    let there = reached w way in
+    line_there lines w line (omega (arith, size, there))))
     (lt-ltb (get_or (draft_ranks d) place 0) (length lines) (omega (arith, rank, few, size)))
 
 pub old_line : (mark : Bool) (o : Option PlacedLine) (new : PlacedLine) → option_map (ended_line mark) o ≡ Some new → (old : PlacedLine) × (o ≡ Some old) × (new ≡ ended_line mark old)

@@ -1,18 +1,15 @@
--- Lines whose runs come back to none without an access have ranks that fall.
-use Rattle.std.proofs.Common.{◌≡◌, ◌⊎◌, ℕ, zero, suc, ◌+◌, ◌<◌, ◌≤◌, Bool, true, false, cond, ◌||◌, ltb, eqb, max, List, [], ◌∷◌, length, map, get_or, Option, Some, None, slice_get, refl, sym, ap, ◌∙◌, subst, inl, inr, arith}
+-- Lines to which no run comes back by gotos without an access have ranks that fall, within a round of each loop.
+use Rattle.std.proofs.Common.{◌≡◌, ◌⊎◌, ℕ, zero, suc, ◌+◌, ◌<◌, ◌≤◌, Bool, true, false, cond, not, ◌||◌, ltb, eqb, max, List, [], ◌∷◌, length, map, get_or, Option, Some, None, slice_get, refl, sym, ap, ◌∙◌, subst, inl, inr, arith}
 use Rattle.std.specs.List.{range_with_len}
-use Rattle.std.specs.Option.{option_map}
 use Rattle.std.proofs.lemmas.Bool.{false≢true, ltb-true, ltb-false, eqb-true, eq-eqb}
-use Rattle.std.proofs.lemmas.Option.{slice_get-map}
 use Rattle.std.proofs.lemmas.List.FromFn.{get_or-map-range_with_len}
-use Rattle.algorithm_texts.specs.declared.flow.RunKind.TheVariants.{All, Silent}
+use Rattle.algorithm_texts.specs.declared.flow.RunKind.TheVariants.{All, Forward}
 use Rattle.algorithm_texts.specs.declared.lines.CallRead.{CallRead}
-use Rattle.algorithm_texts.specs.Drafts.{LineForm, Accessing, Assigning, Noting, Going, Branching, Beginning, Repeating, Ending, PlacedLine, Drafted, form_with_place}
+use Rattle.algorithm_texts.specs.Drafts.{LineForm, Accessing, Assigning, Noting, Going, Branching, Beginning, Repeating, Ending, PlacedLine, Drafted}
 use Rattle.algorithm_texts.specs.FinishedDrafts.{loop_has_round, is_within, ways}
-use Rattle.algorithm_texts.specs.Runs.{ways_after, ways_from, leads_to, is_access, is_line_in, IsPlaceReached, RunsStay, NoneReturns}
-use Rattle.algorithm_texts.specs.Usage.{uses, passes_where, passes_at}
+use Rattle.algorithm_texts.specs.Runs.{forward_ways, ways_after, ways_from, leads_to, is_access, is_line_in, IsPlaceReached, RunsStay, NoneReturns}
 use Rattle.algorithm_texts.proofs.RunMarks.{both_true, true_or_false, or_left, or_right, either, comes_on}
-use Rattle.algorithm_texts.proofs.RoundMarks.{way_out, all_way, access_same, round_of}
+use Rattle.algorithm_texts.proofs.RoundMarks.{way_out, forward_way, round_of}
 
 -- ---- heights
 
@@ -106,7 +103,7 @@ local_where None = false
 local_where (Some line) = is_local_form line.form
 
 -- a local line leads somewhere
-local_leads : (least next : ℕ) (form : LineForm) → is_local_form form ≡ true → (w : ℕ) × (leads_to (ways least next form) w ≡ true)
+local_leads : (least next : ℕ) (form : LineForm) → is_local_form form ≡ true → (w : ℕ) × (leads_to (forward_ways least next form) w ≡ true)
 unfolding is_local_form
 local_leads least next (Accessing a) h = absurd (false≢true h)
 local_leads least next (Assigning name value) h = (next, or_left (eqb next next) false (eq-eqb next next refl))
@@ -117,15 +114,10 @@ local_leads least next (Beginning name members after) h = elim (true_or_false (l
   | inl t ↦ (next, ap (λ b. leads_to (cond b (next ∷ []) (next ∷ (after ∷ []))) next) t ∙ or_left (eqb next next) false (eq-eqb next next refl))
   | inr f ↦ (next, ap (λ b. leads_to (cond b (next ∷ []) (next ∷ (after ∷ []))) next) f ∙ or_left (eqb next next) (eqb after next || false) (eq-eqb next next refl))
 ]
-local_leads least next (Repeating name members body) h = (body, or_left (eqb body body) (eqb next body || false) (eq-eqb body body refl))
+local_leads least next (Repeating name members body) h = (next, or_left (eqb next next) false (eq-eqb next next refl))
 local_leads least next (Ending answer) h = absurd (false≢true h)
 
-where_leads : (least at : ℕ) (o : Option PlacedLine) → local_where o ≡ true → (w : ℕ) × (leads_to (ways_after least All at o) w ≡ true)
-unfolding local_where
-where_leads least at None h = absurd (false≢true h)
-where_leads least at (Some line) h = local_leads least (at + 1) line.form h
-
-local_silent : (form : LineForm) → is_local_form form ≡ true → is_access form ≡ false
+pub local_silent : (form : LineForm) → is_local_form form ≡ true → is_access form ≡ false
 unfolding is_local_form
 local_silent (Accessing a) h = absurd (false≢true h)
 local_silent (Assigning name value) h = refl
@@ -136,14 +128,16 @@ local_silent (Beginning name members after) h = refl
 local_silent (Repeating name members body) h = refl
 local_silent (Ending answer) h = refl
 
-where_silent : (o : Option PlacedLine) → local_where o ≡ true → passes_where is_access (option_map (λ line. form_with_place 0 line.form) o) ≡ false
+where_leads : (least at : ℕ) (o : Option PlacedLine) → local_where o ≡ true → (w : ℕ) × (leads_to (ways_after least Forward at o) w ≡ true)
 unfolding local_where
-where_silent None h = refl
-where_silent (Some line) h = access_same line.form ∙ local_silent line.form h
+where_leads least at None h = absurd (false≢true h)
+where_leads least at (Some line) h =
+    let l = local_leads least (at + 1) line.form h in
+    (l.0, ap (λ b. leads_to (cond (not b) (forward_ways least (at + 1) line.form) []) l.0) (local_silent line.form h) ∙ l.1)
 
--- where the lines of a draft lead
+-- where the lines of a draft that are no accesses lead within a round of each loop
 unfoldable pub draft_ways : Drafted → ℕ → List ℕ
-draft_ways d at = ways_after d.head.least All at (slice_get d.lines at)
+draft_ways d at = ways_after d.head.least Forward at (slice_get d.lines at)
 
 unfoldable pub draft_local : Drafted → ℕ → Bool
 draft_local d at = local_where (slice_get d.lines at)
@@ -161,21 +155,19 @@ line_within d call at h =
 
 -- a way of a local line that is reached
 local_way : (d : Drafted) (call : CallRead) → RunsStay d call → (at w : ℕ) → IsPlaceReached d call at → draft_local d at ≡ true → leads_to (draft_ways d at) w ≡ true
-    → (leads_to (ways_from d call Silent at) w ≡ true) × IsPlaceReached d call w
+    → (leads_to (ways_from d call Forward at) w ≡ true) × IsPlaceReached d call w
 unfolding draft_ways draft_local
 local_way d call stays at w reached local leads =
     let line = line_within d call at (stays at reached) in
-    let way = way_out d call All at w line.0 leads in
-    let none : passes_at is_access (uses d.lines) at ≡ false =
-    ap (passes_where is_access) (slice_get-map (λ line. form_with_place 0 line.form) d.lines at) ∙ where_silent (slice_get d.lines at) local in
-    (all_way d call at w none way, comes_on d call All (λ first. first ≡ call.«from») at w reached way)
+    let way = way_out d call Forward at w line.0 leads in
+    (way, comes_on d call All (λ first. first ≡ call.«from») at w reached (forward_way d call at w way).0)
 
 leads_somewhere : (d : Drafted) (at : ℕ) → draft_local d at ≡ true → (w : ℕ) × (leads_to (draft_ways d at) w ≡ true)
 unfolding draft_ways draft_local
 leads_somewhere d at h = where_leads d.head.least at (slice_get d.lines at) h
 
 goes_next : (d : Drafted) (call : CallRead) → RunsStay d call → (m at : ℕ) → (reached : IsPlaceReached d call at) → (n : ℕ) → suc m ≤ height (draft_ways d) (draft_local d) n at
-    → (w : ℕ) × (leads_to (ways_from d call Silent at) w ≡ true) × GoesOn d call m w
+    → (w : ℕ) × (leads_to (ways_from d call Forward at) w ≡ true) × GoesOn d call m w
 goes_next d call stays m at reached zero h = absurd (height_zero (draft_ways d) (draft_local d) at m h)
 goes_next d call stays m at reached (suc n) h =
     let s = height_suc (draft_ways d) (draft_local d) n m at h in

@@ -9,6 +9,7 @@ use Rattle.algorithms.specs.Deeds.{SaysDeed}
 use Rattle.algorithm_texts.specs.Parts.{◌>>=◌}
 use Rattle.algorithm_texts.specs.Drafts.{PlacedLine, lines_of, Drafted}
 use Rattle.algorithm_texts.specs.TextDrafts.{Spoken, read_text}
+use Rattle.algorithm_texts.specs.TextFaults.{ClaimsHavePlaces}
 use Rattle.algorithm_texts.specs.TextLines.{IsRefusalOf, TextSays}
 use Rattle.algorithm_texts.specs.FinishedDrafts.{finished_draft}
 use Rattle.algorithm_texts.specs.Lawful.{NotesDeed}
@@ -48,6 +49,16 @@ pub flow_refused : (text : List ℕ) (d : Drafted) (fault : AlgorithmFault) → 
 flow_refused text d fault its refused =
     refused_part fault (AllRuns d × ((lines : List PlacedLine) × EndUnreached d lines)) ((a : InitializedAlgorithm) × SpellsAlgorithm text a)
     (λ w. flow_of text d its w.0 w.1) refused
+
+-- so do the labels that claims name, where an algorithm is spelled: each has its place
+places_of : (text : List ℕ) (d : Drafted) → IsItsDraft text d → (a : InitializedAlgorithm) → SpellsAlgorithm text a → ClaimsHavePlaces d
+places_of text d its a s = subst (λ x. ClaimsHavePlaces x) (its a s) (a.algorithm.label_places.items, sym s.is_of.algorithm.label_places)
+
+-- where a label has none, no algorithm is spelled, or memory runs out
+pub claims_refused : (text : List ℕ) (d : Drafted) (fault : AlgorithmFault) → IsItsDraft text d → IsRefusalOf fault (ClaimsHavePlaces d)
+    → IsRefusalOf fault ((a : InitializedAlgorithm) × SpellsAlgorithm text a)
+claims_refused text d fault its refused =
+    refused_part fault (ClaimsHavePlaces d) ((a : InitializedAlgorithm) × SpellsAlgorithm text a) (λ w. places_of text d its w.0 w.1) refused
 
 -- where a deed is not said no algorithm is spelled
 pub deeds_refused : (text : List ℕ) (d : Drafted) (made : Algorithm) → IsItsDraft text d → EndUnreached d (lines_of made) → made.entries ≡ d.head.entries

@@ -15,6 +15,8 @@ pub mod Falls
 pub mod NotedLines
 pub mod RunChecks
 pub mod Uses
+pub mod ClaimFacts
+pub mod ClaimLabels
 pub mod Fits
 pub mod BlockTrees
 pub mod BlockPaths

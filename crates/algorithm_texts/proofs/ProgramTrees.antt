@@ -1,5 +1,7 @@
 -- A text that is read is that of a program.
 use Rattle.std.proofs.Common.{◌≡◌, ◌⊎◌, ℕ, Bool, true, false, cond, eqb, ltb, List, [], ◌∷◌, ◌++◌, length, Option, Some, None, IfSome, slice_get, drop, codes, refl, sym, ap, ◌∙◌, subst, inl, inr, append_assoc, arith}
+use Rattle.std.specs.Prelude.{Vec}
+use Rattle.std.specs.declared.alloc.Global.{Global}
 use Rattle.std.proofs.lemmas.Bool.Decides.{nat_tests}
 use Rattle.std.proofs.lemmas.List.{append-nil}
 use Rattle.std.proofs.lemmas.Option.{slice_get_past, slice_get_read, same_Some}
@@ -10,7 +12,8 @@ use Rattle.algorithm_texts.specs.declared.tokens.Token.{Token}
 use Rattle.algorithm_texts.specs.Parts.{◌>>=◌}
 use Rattle.algorithm_texts.specs.Fronts.{is_the_word, is_over, named_by}
 use Rattle.algorithm_texts.specs.Drafts.{Drafted, draft_view}
-use Rattle.algorithm_texts.specs.LineDrafts.{read_statement, scope_in}
+use Rattle.algorithm_texts.specs.LineDrafts.{read_statement, scope_in, with_names}
+use Rattle.algorithm_texts.specs.NeverClaims.{claimed_places, read_claim, read_never, read_processes}
 use Rattle.algorithm_texts.specs.TextDrafts.{Spoken, with_number, empty_draft, call_words, has_call, with_call, end_call_in, end_call, ended_calls, read_call, undeclared_name, read_extent, is_array, read_word_values, with_lasting, read_shared, read_private, read_constant_value, read_constant, read_declaration, read_line, read_lines, read_head, read_promises, read_text}
 use Rattle.algorithm_texts.specs.TextLines.{TextSays}
 use Rattle.algorithm_texts.specs.Blocks.{Block, lines_in, begins_block, divides, ends, draft_after_block, read_statements}
@@ -60,14 +63,23 @@ constant_stays d tokens =
     on_all (λ now. around now ≡ around d) (undeclared_name (scope_in d) d.names (slice_get tokens 0)) _
     (λ name. on_all (λ now. around now ≡ around d) (read_constant_value (scope_in d) d.names (drop 1 tokens)) _ (λ v. refl))
 
+never_stays : (d : Drafted) (tokens : List Token) → IfSome (read_never d tokens) (λ now. around now ≡ around d)
+never_stays d tokens =
+    on_all (λ now. around now ≡ around d) (read_processes (scope_in d) tokens) _
+    (λ processes. on_all (λ now. around now ≡ around d) (read_claim (with_names processes.0 d) processes.1) _ (λ claim. refl))
+
 pub declaration_stays : (d : Drafted) (tokens : List Token) → IfSome (read_declaration d tokens) (λ now. around now ≡ around d)
 declaration_stays d tokens =
     if_cond (λ now. around now ≡ around d) (is_the_word (slice_get tokens 0) (codes "shared")) (read_shared d (drop 1 tokens))
     (cond (is_the_word (slice_get tokens 0) (codes "private")) (read_private d (drop 1 tokens))
-    (cond (is_the_word (slice_get tokens 0) (codes "constant")) (read_constant d (drop 1 tokens)) None)) (shared_stays d (drop 1 tokens))
+    (cond (is_the_word (slice_get tokens 0) (codes "constant")) (read_constant d (drop 1 tokens))
+    (cond (is_the_word (slice_get tokens 0) (codes "never")) (read_never d (drop 1 tokens)) None))) (shared_stays d (drop 1 tokens))
     (if_cond (λ now. around now ≡ around d) (is_the_word (slice_get tokens 0) (codes "private")) (read_private d (drop 1 tokens))
-    (cond (is_the_word (slice_get tokens 0) (codes "constant")) (read_constant d (drop 1 tokens)) None) (private_stays d (drop 1 tokens))
-    (if_cond (λ now. around now ≡ around d) (is_the_word (slice_get tokens 0) (codes "constant")) (read_constant d (drop 1 tokens)) None (constant_stays d (drop 1 tokens)) tt))
+    (cond (is_the_word (slice_get tokens 0) (codes "constant")) (read_constant d (drop 1 tokens))
+    (cond (is_the_word (slice_get tokens 0) (codes "never")) (read_never d (drop 1 tokens)) None)) (private_stays d (drop 1 tokens))
+    (if_cond (λ now. around now ≡ around d) (is_the_word (slice_get tokens 0) (codes "constant")) (read_constant d (drop 1 tokens))
+    (cond (is_the_word (slice_get tokens 0) (codes "never")) (read_never d (drop 1 tokens)) None) (constant_stays d (drop 1 tokens))
+    (if_cond (λ now. around now ≡ around d) (is_the_word (slice_get tokens 0) (codes "never")) (read_never d (drop 1 tokens)) None (never_stays d (drop 1 tokens)) tt)))
 
 -- ---- where a call ends
 
@@ -264,11 +276,12 @@ spelled_draft text read ready spoken says reads finishes fit =
     record { program = p.0; says = subst (λ ss. TextSays text ss) (sym p.1) says; means = ap (λ o. o >>= finished_draft) p.2 ∙ finishes; fit = fit }
 
 -- the algorithm of a draft whose runs do what they may, with the deeds of its lock and its unlock
-pub spelled : (text : List ℕ) (ready checked : Draft) (first : Option FirstValues) → SpellsDraft text (draft_view ready) → AllRuns (draft_view ready)
+pub spelled : (text : List ℕ) (ready checked : Draft) (first : Option FirstValues) (places : Vec ℕ Global) → SpellsDraft text (draft_view ready) → AllRuns (draft_view ready)
     → NotesDeed (draft_view ready) (draft_view ready).head.entries.lock Enter → NotesDeed (draft_view ready) (draft_view ready).head.entries.unlock Leave
     → EndUnreached (draft_view ready) (draft_view checked).lines → draft_view checked ≡ with_lines (draft_view checked).lines (draft_view ready)
-    → starts_in first ≡ said_starts (draft_view ready) → SpellsAlgorithm text (record { algorithm = checked.algorithm; first_values = first })
-spelled text ready checked first spells runs enters leaves ends kept values = record {
+    → starts_in first ≡ said_starts (draft_view ready) → claimed_places (draft_view ready) ≡ Some places.items
+    → SpellsAlgorithm text (record { algorithm = record checked.algorithm { label_places = places }; first_values = first })
+spelled text ready checked first places spells runs enters leaves ends kept values claimed = record {
   program = spells.program;
   says = spells.says;
   draft = draft_view ready;
@@ -283,6 +296,8 @@ spelled text ready checked first spells runs enters leaves ends kept values = re
       names = ap (λ d. d.names) kept;
       answers = ap (λ d. d.answers) kept;
       lines = ends;
+      claims = ap (λ d. d.claims) kept;
+      label_places = sym claimed;
     };
     first_values = values;
   };

@@ -9,13 +9,13 @@ use Rattle.std.proofs.lemmas.List.Sums.{sum_by-set, count_by-le-length}
 use Rattle.algorithms.specs.declared.fault.AlgorithmFault.{AlgorithmFault}
 use Rattle.algorithms.specs.declared.fault.ReadFault.TheVariants.{Endless}
 use Rattle.algorithm_texts.specs.declared.flow.RunKind.{RunKind}
-use Rattle.algorithm_texts.specs.declared.flow.RunKind.TheVariants.{All, Silent}
+use Rattle.algorithm_texts.specs.declared.flow.RunKind.TheVariants.{All, Forward}
 use Rattle.algorithm_texts.specs.declared.lines.CallRead.{CallRead}
 use Rattle.algorithm_texts.specs.Drafts.{LineForm, Accessing, Assigning, Noting, Going, Branching, Beginning, Repeating, Ending, Drafted, PlacedLine, form_with_place}
 use Rattle.algorithm_texts.specs.FinishedDrafts.{is_in, is_marked, is_within, ways}
 use Rattle.algorithm_texts.specs.Marks.{KeepsMarks, MarksReached, and_then, is_free}
 use Rattle.algorithm_texts.specs.Rounds.{IsOnRound, LocalMarked, ReturnsMarked, RoundsMarked, LeadOn, leads_on, is_loose, count_marks}
-use Rattle.algorithm_texts.specs.Runs.{ways_after, ways_from, leads_to, is_access, RunComesTo, ComesOver, IsPlaceReached, ReturnsSilently, NotOnRound, NoneReturns}
+use Rattle.algorithm_texts.specs.Runs.{forward_ways, ways_after, ways_from, leads_to, is_access, RunComesTo, ComesOver, IsPlaceReached, ReturnsByGoto, NotOnRound, NoneReturns}
 use Rattle.algorithm_texts.specs.TextFaults.{IsFaultAtFirst, OrMemory}
 use Rattle.algorithm_texts.specs.TextLines.{IsRefusalOf}
 use Rattle.algorithm_texts.specs.Usage.{uses, passes_where, passes_at}
@@ -49,32 +49,30 @@ silent_form : (access : Bool) (ws : List ℕ) (way : ℕ) → leads_to (cond (no
 silent_form true ws way h = absurd (false≢true h)
 silent_form false ws way h = (h, refl)
 
-after_silent : (least at way : ℕ) (o : Option PlacedLine) → leads_to (ways_after least Silent at o) way ≡ true
+pub forward_is_way : (least next : ℕ) (form : LineForm) (way : ℕ) → leads_to (forward_ways least next form) way ≡ true → leads_to (ways least next form) way ≡ true
+forward_is_way least next (Accessing a) way h = h
+forward_is_way least next (Assigning name value) way h = h
+forward_is_way least next (Noting deed) way h = h
+forward_is_way least next (Going place) way h = h
+forward_is_way least next (Branching condition otherwise) way h = h
+forward_is_way least next (Beginning name members after) way h = h
+forward_is_way least next (Repeating name members body) way h = or_right (eqb body way) (leads_to (next ∷ []) way) h
+forward_is_way least next (Ending answer) way h = h
+
+after_forward : (least at way : ℕ) (o : Option PlacedLine) → leads_to (ways_after least Forward at o) way ≡ true
     → (leads_to (ways_after least All at o) way ≡ true) × (passes_where is_access (option_map (λ line. form_with_place 0 line.form) o) ≡ false)
-after_silent least at way None h = absurd (false≢true h)
-after_silent least at way (Some line) h =
-    let k = silent_form (is_access line.form) (ways least (at + 1) line.form) way h in
-    (k.0, access_same line.form ∙ k.1)
+after_forward least at way None h = absurd (false≢true h)
+after_forward least at way (Some line) h =
+    let k = silent_form (is_access line.form) (forward_ways least (at + 1) line.form) way h in
+    (forward_is_way least (at + 1) line.form way k.0, access_same line.form ∙ k.1)
 
-after_all : (least at way : ℕ) (o : Option PlacedLine) → passes_where is_access (option_map (λ line. form_with_place 0 line.form) o) ≡ false
-    → leads_to (ways_after least All at o) way ≡ true → leads_to (ways_after least Silent at o) way ≡ true
-after_all least at way None none h = absurd (false≢true h)
-after_all least at way (Some line) none h = ap (λ b. leads_to (cond (not b) (ways least (at + 1) line.form) []) way) (sym (access_same line.form) ∙ none) ∙ h
-
--- a way without an access is a way, of a line that is none
-pub silent_way : (d : Drafted) (call : CallRead) (at way : ℕ) → leads_to (ways_from d call Silent at) way ≡ true
+-- a way of a run by gotos without an access is a way, of a line that is none
+pub forward_way : (d : Drafted) (call : CallRead) (at way : ℕ) → leads_to (ways_from d call Forward at) way ≡ true
     → (leads_to (ways_from d call All at) way ≡ true) × (passes_at is_access (uses d.lines) at ≡ false)
-silent_way d call at way h =
-    let w = way_in d call Silent at way h in
-    let k = after_silent d.head.least at way (slice_get d.lines at) w.1 in
+forward_way d call at way h =
+    let w = way_in d call Forward at way h in
+    let k = after_forward d.head.least at way (slice_get d.lines at) w.1 in
     (way_out d call All at way w.0 k.0, ap (passes_where is_access) (slice_get-map (λ line. form_with_place 0 line.form) d.lines at) ∙ k.1)
-
-pub all_way : (d : Drafted) (call : CallRead) (at way : ℕ) → passes_at is_access (uses d.lines) at ≡ false → leads_to (ways_from d call All at) way ≡ true
-    → leads_to (ways_from d call Silent at) way ≡ true
-all_way d call at way none h =
-    let w = way_in d call All at way h in
-    way_out d call Silent at way w.0
-    (after_all d.head.least at way (slice_get d.lines at) (sym (ap (passes_where is_access) (slice_get-map (λ line. form_with_place 0 line.form) d.lines at)) ∙ none) w.1)
 
 -- ---- runs
 
@@ -92,50 +90,50 @@ first_way d call runs (suc n) first at h =
     let r = first_way d call runs n first h.0 h.1 in
     (r.0, r.1, (h.0, r.2, h.2))
 
-silent_over : (d : Drafted) (call : CallRead) (Start : ℕ → Type 0) (n at : ℕ) → ComesOver d call Silent Start n at → ComesOver d call All Start n at
-silent_over d call Start zero at h = h
-silent_over d call Start (suc n) at h = (h.0, silent_over d call Start n h.0 h.1, (silent_way d call h.0 at h.2).0)
+forward_over : (d : Drafted) (call : CallRead) (Start : ℕ → Type 0) (n at : ℕ) → ComesOver d call Forward Start n at → ComesOver d call All Start n at
+forward_over d call Start zero at h = h
+forward_over d call Start (suc n) at h = (h.0, forward_over d call Start n h.0 h.1, (forward_way d call h.0 at h.2).0)
 
--- a run without an access comes to places that are reached
-reached_silently : (d : Drafted) (call : CallRead) (middle at : ℕ) → IsPlaceReached d call middle → RunComesTo d call Silent (λ first. first ≡ middle) at
+-- a run by gotos without an access comes to places that are reached
+reached_forward : (d : Drafted) (call : CallRead) (middle at : ℕ) → IsPlaceReached d call middle → RunComesTo d call Forward (λ first. first ≡ middle) at
     → IsPlaceReached d call at
-reached_silently d call middle at r h = runs_on d call All (λ first. first ≡ call.«from») middle r h.0 at (silent_over d call (λ first. first ≡ middle) h.0 at h.1)
+reached_forward d call middle at r h = runs_on d call All (λ first. first ≡ call.«from») middle r h.0 at (forward_over d call (λ first. first ≡ middle) h.0 at h.1)
 
-stand : (d : Drafted) (call : CallRead) (at : ℕ) → RunComesTo d call Silent (λ first. first ≡ at) at
+stand : (d : Drafted) (call : CallRead) (at : ℕ) → RunComesTo d call Forward (λ first. first ≡ at) at
 stand d call at = (zero, refl)
 
 -- ---- rounds
 
-next_from : (d : Drafted) (call : CallRead) (at before n : ℕ) → IsPlaceReached d call at → ComesOver d call Silent (λ first. first ≡ at) n before
-    → leads_to (ways_from d call Silent before) at ≡ true → (way : ℕ) × (leads_to (ways_from d call Silent at) way ≡ true) × IsOnRound d call way
+next_from : (d : Drafted) (call : CallRead) (at before n : ℕ) → IsPlaceReached d call at → ComesOver d call Forward (λ first. first ≡ at) n before
+    → leads_to (ways_from d call Forward before) at ≡ true → (way : ℕ) × (leads_to (ways_from d call Forward at) way ≡ true) × IsOnRound d call way
 next_from d call at before zero r e leads =
-    let here : leads_to (ways_from d call Silent at) at ≡ true = subst (λ x. leads_to (ways_from d call Silent x) at ≡ true) e leads in
+    let here : leads_to (ways_from d call Forward at) at ≡ true = subst (λ x. leads_to (ways_from d call Forward x) at ≡ true) e leads in
     (at, here, (r, (at, stand d call at, here)))
 next_from d call at before (suc m) r over leads =
-    let f = first_way d call Silent m at before over in (
+    let f = first_way d call Forward m at before over in (
       f.0,
       f.1,
       (
-        comes_on d call All (λ first. first ≡ call.«from») at f.0 r (silent_way d call at f.0 f.1).0,
-        (at, comes_on d call Silent (λ first. first ≡ f.0) before at (m, f.2) leads, f.1),
+        comes_on d call All (λ first. first ≡ call.«from») at f.0 r (forward_way d call at f.0 f.1).0,
+        (at, comes_on d call Forward (λ first. first ≡ f.0) before at (m, f.2) leads, f.1),
       ),
     )
 
 -- a place on a round leads to one
-pub round_next : (d : Drafted) (call : CallRead) (at : ℕ) → IsOnRound d call at → (way : ℕ) × (leads_to (ways_from d call Silent at) way ≡ true) × IsOnRound d call way
+pub round_next : (d : Drafted) (call : CallRead) (at : ℕ) → IsOnRound d call at → (way : ℕ) × (leads_to (ways_from d call Forward at) way ≡ true) × IsOnRound d call way
 round_next d call at h = next_from d call at h.1.0 h.1.1.0 h.0 h.1.1.1 h.1.2
 
-last_from : (d : Drafted) (call : CallRead) (at before n : ℕ) → ComesOver d call Silent (λ first. first ≡ at) n before
-    → leads_to (ways_from d call Silent before) at ≡ true → ReturnsSilently d call before
+last_from : (d : Drafted) (call : CallRead) (at before n : ℕ) → ComesOver d call Forward (λ first. first ≡ at) n before
+    → leads_to (ways_from d call Forward before) at ≡ true → ReturnsByGoto d call before
 last_from d call at before zero e leads =
-    (before, stand d call before, subst (λ x. leads_to (ways_from d call Silent before) x ≡ true) (sym e) leads)
+    (before, stand d call before, subst (λ x. leads_to (ways_from d call Forward before) x ≡ true) (sym e) leads)
 last_from d call at before (suc m) over leads =
-    (over.0, runs_on d call Silent (λ first. first ≡ before) at (comes_on d call Silent (λ first. first ≡ before) before at (stand d call before) leads) m over.0 over.1, over.2)
+    (over.0, runs_on d call Forward (λ first. first ≡ before) at (comes_on d call Forward (λ first. first ≡ before) before at (stand d call before) leads) m over.0 over.1, over.2)
 
 -- one on a round leads to it
-pub round_last : (d : Drafted) (call : CallRead) (at : ℕ) → IsOnRound d call at → (before : ℕ) × (leads_to (ways_from d call Silent before) at ≡ true) × IsOnRound d call before
+pub round_last : (d : Drafted) (call : CallRead) (at : ℕ) → IsOnRound d call at → (before : ℕ) × (leads_to (ways_from d call Forward before) at ≡ true) × IsOnRound d call before
 round_last d call at h =
-    (h.1.0, h.1.2, (reached_silently d call at h.1.0 h.0 h.1.1, last_from d call at h.1.0 h.1.1.0 h.1.1.1 h.1.2))
+    (h.1.0, h.1.2, (reached_forward d call at h.1.0 h.0 h.1.1, last_from d call at h.1.0 h.1.1.0 h.1.1.1 h.1.2))
 
 -- ---- places that lead on
 
@@ -147,9 +145,9 @@ some_marked marks way h = elim (true_or_false (ltb way (length marks))) [
 
 -- a run that goes on past as many places as there are comes back
 walk : (d : Drafted) (call : CallRead) (size : ℕ) (P : ℕ → ℕ → Type 0) → ((m at : ℕ) → P m at → at < size)
-    → ((m at : ℕ) → P (suc m) at → (way : ℕ) × (leads_to (ways_from d call Silent at) way ≡ true) × P m way)
+    → ((m at : ℕ) → P (suc m) at → (way : ℕ) × (leads_to (ways_from d call Forward at) way ≡ true) × P m way)
     → (m at : ℕ) (visited : List Bool) → length visited ≡ size → count_by not visited < m
-    → ((x : ℕ) → is_in visited x ≡ true → RunComesTo d call Silent (λ first. first ≡ x) at) → P m at → (k : ℕ) × (x : ℕ) × P k x × ReturnsSilently d call x
+    → ((x : ℕ) → is_in visited x ≡ true → RunComesTo d call Forward (λ first. first ≡ x) at) → P m at → (k : ℕ) × (x : ℕ) × P k x × ReturnsByGoto d call x
 walk d call size P within next zero at visited long few comes p = absurd (omega (arith, few))
 walk d call size P within next (suc m) at visited long few comes p =
     let n = next m at p in
@@ -162,14 +160,14 @@ walk d call size P within next (suc m) at visited long few comes p =
           walk d call size P within next m n.0 (set visited n.0 true) (length-set visited n.0 true ∙ long) (omega (arith, fewer, few))
           (λ x h. elim (marked_set visited n.0 x h) [
             | inl e ↦ (zero, sym e)
-            | inr k ↦ comes_on d call Silent (λ first. first ≡ x) at n.0 (comes x k) n.1
+            | inr k ↦ comes_on d call Forward (λ first. first ≡ x) at n.0 (comes x k) n.1
           ]) n.2
     ]
 
 -- from a place that goes on so far, a run comes to a place to which it comes back
 pub round_of : (d : Drafted) (call : CallRead) (size : ℕ) (P : ℕ → ℕ → Type 0) → ((m at : ℕ) → P m at → at < size)
-    → ((m at : ℕ) → P (suc m) at → (way : ℕ) × (leads_to (ways_from d call Silent at) way ≡ true) × P m way)
-    → (m at : ℕ) → size ≤ m → P m at → (k : ℕ) × (x : ℕ) × P k x × ReturnsSilently d call x
+    → ((m at : ℕ) → P (suc m) at → (way : ℕ) × (leads_to (ways_from d call Forward at) way ≡ true) × P m way)
+    → (m at : ℕ) → size ≤ m → P m at → (k : ℕ) × (x : ℕ) × P k x × ReturnsByGoto d call x
 round_of d call size P within next m at enough p =
     let none : List Bool = replicate size false in
     let there : at < length none = subst (λ (k : ℕ). at < k) (sym (length-replicate size false)) (within m at p) in
@@ -298,10 +296,10 @@ taken_here d call old left followed place fewer s marked long loose =
     let no : RoundsMarked d call old → IsOnRound d call place → ⊥ = λ r h.
     let n = round_next d call place h in
     let b = round_last d call place h in
-    let line = leads_within d call Silent place n.0 n.1 in
-    let back = silent_way d call b.0 place b.1 in
-    p.1 (marked b.0 place (way_in d call Silent b.0 place b.1).0 (r b.0 b.2) back.0 (omega (arith, line, long)))
-    (way_any left (ways_from d call All place) n.0 (silent_way d call place n.0 n.1).0 (s.rounds r n.0 n.2)) in
+    let line = leads_within d call Forward place n.0 n.1 in
+    let back = forward_way d call b.0 place b.1 in
+    p.1 (marked b.0 place (way_in d call Forward b.0 place b.1).0 (r b.0 b.2) back.0 (omega (arith, line, long)))
+    (way_any left (ways_from d call All place) n.0 (forward_way d call place n.0 n.1).0 (s.rounds r n.0 n.2)) in
     record {
       size = length-set left place false ∙ s.size;
       kept = λ at h. s.kept at (was_marked left place at h);
@@ -389,11 +387,11 @@ pub round_local : (d : Drafted) (call : CallRead) (reached : List Bool) → Mark
     → LocalMarked d call reached at × (at < length d.lines)
 round_local d call reached reaches at h =
     let n = round_next d call at h in
-    let line = leads_within d call Silent at n.0 n.1 in (
+    let line = leads_within d call Forward at n.0 n.1 in (
       record {
-        within = (way_in d call Silent at n.0 n.1).0;
+        within = (way_in d call Forward at n.0 n.1).0;
         marked = reaches.all at (omega (arith, line)) h.0;
-        silent = (silent_way d call at n.0 n.1).1;
+        silent = (forward_way d call at n.0 n.1).1;
       },
       line,
     )
@@ -424,24 +422,24 @@ round_refused d call fault (inr f) = inr (λ none. f.first.fails (none f.at))
 
 -- ---- runs that come back
 
-ahead : (d : Drafted) (call : CallRead) (at n x : ℕ) → ComesOver d call Silent (λ first. leads_to (ways_from d call Silent at) first ≡ true) n x
-    → ComesOver d call Silent (λ first. first ≡ at) (suc n) x
+ahead : (d : Drafted) (call : CallRead) (at n x : ℕ) → ComesOver d call Forward (λ first. leads_to (ways_from d call Forward at) first ≡ true) n x
+    → ComesOver d call Forward (λ first. first ≡ at) (suc n) x
 ahead d call at zero x h = (at, refl, h)
 ahead d call at (suc n) x h = (h.0, ahead d call at n h.0 h.1, h.2)
 
 -- a run from places to which a place leads, which comes to it
-pub led_back : (d : Drafted) (call : CallRead) (at : ℕ) → RunComesTo d call Silent (λ first. leads_to (ways_from d call Silent at) first ≡ true) at
-    → ReturnsSilently d call at
+pub led_back : (d : Drafted) (call : CallRead) (at : ℕ) → RunComesTo d call Forward (λ first. leads_to (ways_from d call Forward at) first ≡ true) at
+    → ReturnsByGoto d call at
 led_back d call at h =
     let r = ahead d call at h.0 at h.1 in
     (r.0, (h.0, r.1), r.2)
 
 -- a place to which a run comes back leads to the first of it
-pub back_led : (d : Drafted) (call : CallRead) (at : ℕ) → ReturnsSilently d call at
-    → (RunComesTo d call Silent (λ first. leads_to (ways_from d call Silent at) first ≡ true) at) × (at < length d.lines)
+pub back_led : (d : Drafted) (call : CallRead) (at : ℕ) → ReturnsByGoto d call at
+    → (RunComesTo d call Forward (λ first. leads_to (ways_from d call Forward at) first ≡ true) at) × (at < length d.lines)
 back_led d call at h =
-    let f = first_way d call Silent h.1.0 at at (h.0, h.1.1, h.2) in
-    let starts : (x : ℕ) → x ≡ f.0 → leads_to (ways_from d call Silent at) x ≡ true = λ x e. subst (λ y. leads_to (ways_from d call Silent at) y ≡ true) (sym e) f.1 in (
-      comes_other d call Silent (λ x. x ≡ f.0) (λ x. leads_to (ways_from d call Silent at) x ≡ true) starts at (h.1.0, f.2),
-      leads_within d call Silent at f.0 f.1,
+    let f = first_way d call Forward h.1.0 at at (h.0, h.1.1, h.2) in
+    let starts : (x : ℕ) → x ≡ f.0 → leads_to (ways_from d call Forward at) x ≡ true = λ x e. subst (λ y. leads_to (ways_from d call Forward at) y ≡ true) (sym e) f.1 in (
+      comes_other d call Forward (λ x. x ≡ f.0) (λ x. leads_to (ways_from d call Forward at) x ≡ true) starts at (h.1.0, f.2),
+      leads_within d call Forward at f.0 f.1,
     )

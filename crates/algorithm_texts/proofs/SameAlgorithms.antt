@@ -1,5 +1,6 @@
 -- A text spells one algorithm, and each that is the same in all that a text says.
-use Rattle.std.proofs.Common.{◌≡◌, refl, ℕ, ◌+◌, Bool, true, false, List, [], ◌∷◌, sym, ap, ◌∙◌, subst}
+use Rattle.std.proofs.Common.{◌≡◌, refl, ℕ, ◌+◌, Bool, true, false, List, [], ◌∷◌, Some, sym, ap, ◌∙◌, subst}
+use Rattle.std.proofs.lemmas.Option.{same_Some}
 use Rattle.algorithms.specs.declared.first_values.InitializedAlgorithm.{InitializedAlgorithm}
 use Rattle.algorithm_texts.specs.Drafts.{PlacedLine, Drafted}
 use Rattle.algorithm_texts.specs.FinishedDrafts.{is_in}
@@ -25,6 +26,8 @@ alike_spelled text a b same s = record {
       names = same.algorithm.names ∙ s.is_of.algorithm.names;
       answers = same.algorithm.answers ∙ s.is_of.algorithm.answers;
       lines = subst (λ lines. EndUnreached s.draft lines) (sym same.algorithm.lines) s.is_of.algorithm.lines;
+      claims = same.algorithm.claims.claims ∙ s.is_of.algorithm.claims;
+      label_places = ap Some same.algorithm.claims.label_places ∙ s.is_of.algorithm.label_places;
     };
     first_values = same.first_values ∙ s.is_of.first_values;
   };
@@ -62,6 +65,10 @@ spell_alike = λ text a b s t.
         lasting = of_a.lasting ∙ sym of_b.lasting;
         names = of_a.names ∙ sym of_b.names;
         answers = of_a.answers ∙ sym of_b.answers;
+        claims = record {
+          claims = of_a.claims ∙ sym of_b.claims;
+          label_places = same_Some a.algorithm.label_places.items b.algorithm.label_places.items (of_a.label_places ∙ sym of_b.label_places);
+        };
         lines = same_lines one.0 _ _ of_a.lines of_b.lines;
       };
       first_values = one.1.first_values ∙ sym one.2.first_values;

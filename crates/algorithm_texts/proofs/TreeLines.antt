@@ -14,7 +14,8 @@ use Rattle.algorithm_texts.specs.Grammar.{Scope, is_among}
 unfoldable use Rattle.algorithm_texts.specs.Operands.{reserved}
 use Rattle.algorithm_texts.specs.Fronts.{is_the_word, is_the_sign, letters_of, is_over, begins_no_simple}
 use Rattle.algorithm_texts.specs.Drafts.{Drafted}
-use Rattle.algorithm_texts.specs.LineDrafts.{new_name_in, new_name, has_declaration, name_set, is_constant, scope_in, read_goto, read_done, read_deed, read_await, read_store, read_private_assignment, read_assignment, read_simple, opening, read_test, read_then, read_if, read_for, read_else, read_end, read_label, read_statement}
+use Rattle.algorithm_texts.specs.LineDrafts.{new_name_in, new_name, has_declaration, name_set, is_constant, scope_in, with_names, read_goto, read_done, read_deed, read_await, read_store, read_private_assignment, read_assignment, read_simple, opening, read_test, read_then, read_if, read_for, read_else, read_end, read_label, read_statement}
+use Rattle.algorithm_texts.specs.NeverClaims.{read_claim, read_never, read_processes}
 use Rattle.algorithm_texts.specs.TextDrafts.{Spoken, with_number, empty_draft, undeclared_name, read_extent, is_array, read_word_values, with_lasting, read_shared, read_private, read_constant_value, read_constant, read_declaration, read_call, read_line, read_lines, read_head, read_promises, read_text}
 use Rattle.algorithm_texts.specs.Blocks.{Block, Empty, Line, Enclosed, Divided, lines_in, read_if_block, read_if_line, begins_block, read_alone, divides, ends, draft_after_statement, beginning, dividing, ending, draft_after_block}
 use Rattle.algorithm_texts.specs.Programs.{CallLines, Program, calls_lines, program_lines, declarations_made, call_begun, calls_made, meaning_of}
@@ -206,6 +207,16 @@ three_no_call tokens w v u x y z now p q r e = elim (true_or_false (is_the_word 
       (sym (ap (λ b. cond b x (cond (is_the_word (slice_get tokens 0) v) y (cond (is_the_word (slice_get tokens 0) u) z None))) h) ∙ e)
 ]
 
+-- the same of four words
+four_no_call : (tokens : List Token) (w v u t : List ℕ) (x y z q : Option Drafted) (now : Drafted) → bytes_eq w (codes "call") ≡ false → bytes_eq v (codes "call") ≡ false → bytes_eq u (codes "call") ≡ false → bytes_eq t (codes "call") ≡ false
+    → cond (is_the_word (slice_get tokens 0) w) x (cond (is_the_word (slice_get tokens 0) v) y (cond (is_the_word (slice_get tokens 0) u) z (cond (is_the_word (slice_get tokens 0) t) q None))) ≡ Some now
+    → is_the_word (slice_get tokens 0) (codes "call") ≡ false
+four_no_call tokens w v u t x y z q now a b c d e = elim (true_or_false (is_the_word (slice_get tokens 0) w)) [
+  | inl h ↦ other_word (slice_get tokens 0) w (codes "call") a h
+  | inr h ↦ three_no_call tokens v u t y z q now b c d
+      (sym (ap (λ b. cond b x (cond (is_the_word (slice_get tokens 0) v) y (cond (is_the_word (slice_get tokens 0) u) z (cond (is_the_word (slice_get tokens 0) t) q None)))) h) ∙ e)
+]
+
 cond_parts : (b : Bool) (o : Option Drafted) (now : Drafted) → cond b o None ≡ Some now → (b ≡ true) × (o ≡ Some now)
 cond_parts true o now e = (refl, e)
 cond_parts false o now e = absurd (none-some now e)
@@ -387,22 +398,31 @@ constant_other d tokens none =
     on_all (λ now. NoCall now.declared) (undeclared_name (scope_in d) d.names (slice_get tokens 0)) _
     (λ name. on_all (λ now. NoCall now.declared) (read_constant_value (scope_in d) d.names (drop 1 tokens)) _ (λ v. none))
 
+never_other : (d : Drafted) (tokens : List Token) → NoCall d.declared → IfSome (read_never d tokens) (λ now. NoCall now.declared)
+never_other d tokens none =
+    on_all (λ now. NoCall now.declared) (read_processes (scope_in d) tokens) _
+    (λ processes. on_all (λ now. NoCall now.declared) (read_claim (with_names processes.0 d) processes.1) _ (λ claim. none))
+
 declaration_other : (d : Drafted) (tokens : List Token) → NoCall d.declared → IfSome (read_declaration d tokens) (λ now. NoCall now.declared)
 declaration_other d tokens none =
     if_cond (λ now. NoCall now.declared) (is_the_word (slice_get tokens 0) (codes "shared")) (read_shared d (drop 1 tokens))
     (cond (is_the_word (slice_get tokens 0) (codes "private")) (read_private d (drop 1 tokens))
-    (cond (is_the_word (slice_get tokens 0) (codes "constant")) (read_constant d (drop 1 tokens)) None)) (shared_other d (drop 1 tokens) none)
+    (cond (is_the_word (slice_get tokens 0) (codes "constant")) (read_constant d (drop 1 tokens))
+    (cond (is_the_word (slice_get tokens 0) (codes "never")) (read_never d (drop 1 tokens)) None))) (shared_other d (drop 1 tokens) none)
     (if_cond (λ now. NoCall now.declared) (is_the_word (slice_get tokens 0) (codes "private")) (read_private d (drop 1 tokens))
-    (cond (is_the_word (slice_get tokens 0) (codes "constant")) (read_constant d (drop 1 tokens)) None) (private_other d (drop 1 tokens) none)
-    (if_cond (λ now. NoCall now.declared) (is_the_word (slice_get tokens 0) (codes "constant")) (read_constant d (drop 1 tokens)) None (constant_other d (drop 1 tokens) none) tt))
+    (cond (is_the_word (slice_get tokens 0) (codes "constant")) (read_constant d (drop 1 tokens))
+    (cond (is_the_word (slice_get tokens 0) (codes "never")) (read_never d (drop 1 tokens)) None)) (private_other d (drop 1 tokens) none)
+    (if_cond (λ now. NoCall now.declared) (is_the_word (slice_get tokens 0) (codes "constant")) (read_constant d (drop 1 tokens))
+    (cond (is_the_word (slice_get tokens 0) (codes "never")) (read_never d (drop 1 tokens)) None) (constant_other d (drop 1 tokens) none)
+    (if_cond (λ now. NoCall now.declared) (is_the_word (slice_get tokens 0) (codes "never")) (read_never d (drop 1 tokens)) None (never_other d (drop 1 tokens) none) tt)))
 
 declarations_read : (ds : List Spoken) (d now : Drafted) (ss : List Spoken) → d.calls ≡ [] → NoCall d.declared → declarations_made ds d ≡ Some now
     → (read_lines d (ds ++ ss) ≡ read_lines now ss) × NoCall now.declared
 declarations_read [] d now ss empty none e = let same = same_Some d now e in (ap (λ x. read_lines x ss) same, subst (λ x. NoCall x.declared) same none)
 declarations_read (s ∷ ds) d now ss empty none e =
     let x = some_of (read_declaration (with_number s.number d) s.tokens) (declarations_made ds) now e in
-    let other = three_no_call s.tokens (codes "shared") (codes "private") (codes "constant") (read_shared (with_number s.number d) (drop 1 s.tokens))
-    (read_private (with_number s.number d) (drop 1 s.tokens)) (read_constant (with_number s.number d) (drop 1 s.tokens)) x.0 refl refl refl x.1 in
+    let other = four_no_call s.tokens (codes "shared") (codes "private") (codes "constant") (codes "never") (read_shared (with_number s.number d) (drop 1 s.tokens))
+    (read_private (with_number s.number d) (drop 1 s.tokens)) (read_constant (with_number s.number d) (drop 1 s.tokens)) (read_never (with_number s.number d) (drop 1 s.tokens)) x.0 refl refl refl refl x.1 in
     let line : read_line (with_number s.number d) s.tokens s.answer d.number ≡ Some x.0 =
     ap (λ b. cond b (read_call (with_number s.number d) (drop 1 s.tokens) d.number)
     (cond (eqb (length d.calls) 0) (read_declaration (with_number s.number d) s.tokens) (read_statement (with_number s.number d) s.tokens s.answer))) other

@@ -19,7 +19,12 @@ use Rattle.algorithms.specs.declared.line.LocalLine.TheVariants.{Assign, Note, G
 use Rattle.algorithms.specs.declared.line.Members.{Members}
 use Rattle.algorithms.specs.declared.line.Members.TheVariants.{All, Others, Lower, Higher, Up, Down}
 use Rattle.algorithms.specs.declared.line.WordOf.{WordOf}
+use Rattle.algorithms.specs.declared.never_claim.ClaimedPhase.{ClaimedPhase}
+use Rattle.algorithms.specs.declared.never_claim.NeverClaim.{NeverClaim}
+use Rattle.algorithms.specs.declared.never_claim.StateFact.{StateFact}
+use Rattle.algorithms.specs.declared.never_claim.StateFact.TheVariants.{Word as WordFact, Phase as PhaseFact, Place as PlaceFact}
 use Rattle.algorithm_texts.specs.declared.lines.CallRead.{CallRead}
+use Rattle.algorithm_texts.specs.declared.lines.ClaimLabel.{ClaimLabel}
 use Rattle.algorithm_texts.specs.declared.lines.Draft.{Draft}
 use Rattle.algorithm_texts.specs.declared.lines.Jump.{Jump}
 use Rattle.algorithm_texts.specs.declared.lines.Label.{Label}
@@ -144,6 +149,32 @@ abbrev pub leading : List PlacedLine → ℕ → ℕ → Option PlacedLine → L
 leading lines at place None = lines
 leading lines at place (Some line) = slice_set lines at (record { number = line.number; form = form_with_place place line.form })
 
+-- ---- claims
+
+-- what a claim looks at: a word, the phase of the process of a name, or its place at a label of the claims
+pub data FactForm : Type 0 where
+  OfWord : SharedWord → FactForm
+  OfPhase : ℕ → ClaimedPhase → FactForm
+  OfPlace : ℕ → ℕ → FactForm
+
+-- a claim, by its line, how many processes it names, and what it looks at
+pub record ClaimForm : Type 0 where
+  pub number : ℕ
+  pub processes : ℕ
+  pub facts : List FactForm
+  pub condition : Formula
+
+abbrev pub fact_form : StateFact → FactForm
+fact_form (WordFact word) = OfWord (word_of word)
+fact_form (PhaseFact name phase) = OfPhase name phase
+fact_form (PlaceFact name label) = OfPlace name label
+
+abbrev pub claim_form : NeverClaim → ClaimForm
+claim_form c = record { number = c.number; processes = c.processes; facts = map fact_form c.facts.items; condition = formula_of c.condition }
+
+abbrev pub claims_of : Algorithm → List ClaimForm
+claims_of a = map claim_form a.claims.items
+
 -- ---- drafts
 
 -- the first value of a word, where it is said
@@ -173,8 +204,8 @@ head_of a = record {
   entries = a.entries;
 }
 
--- what was read so far: also the first value of the words of each declaration, where one is said, and whether a first value, a
--- constant or a size is
+-- what was read so far: also the first value of the words of each declaration, where one is said, whether a first value, a constant
+-- or a size is, and the labels that claims name
 pub record Drafted : Type 0 where
   pub head : DraftHead
   pub declared : List (List ℕ)
@@ -191,6 +222,8 @@ pub record Drafted : Type 0 where
   pub labels : List Label
   pub jumps : List Jump
   pub calls : List CallRead
+  pub claims : List ClaimForm
+  pub claim_labels : List ClaimLabel
 
 abbrev pub draft_view : Draft → Drafted
 draft_view d = record {
@@ -209,4 +242,6 @@ draft_view d = record {
   labels = d.labels.items;
   jumps = d.jumps.items;
   calls = reverse d.calls.items;
+  claims = claims_of d.algorithm;
+  claim_labels = d.claim_labels.items;
 }

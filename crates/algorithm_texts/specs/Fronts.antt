@@ -60,6 +60,9 @@ is_the_word (Some (Number n)) word = false
 is_the_word (Some (Word letters)) word = bytes_eq letters word
 is_the_word (Some (Mark sign)) word = false
 
+abbrev pub is_me : Token → Bool
+is_me token = is_the_word (Some token) (codes "me")
+
 -- the letters of a word
 abbrev pub letters_of : Option Token → Option (List ℕ)
 letters_of None = None

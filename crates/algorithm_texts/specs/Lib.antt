@@ -7,6 +7,8 @@ pub mod Operands
 pub mod Fronts
 pub mod Drafts
 pub mod LineDrafts
+pub mod NewNames
+pub mod NeverClaims
 pub mod TextDrafts
 pub mod TextLines
 pub mod FinishedDrafts

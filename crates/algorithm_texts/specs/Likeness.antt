@@ -7,7 +7,7 @@ use Rattle.algorithms.specs.declared.algorithm.NamedConstant.{NamedConstant}
 use Rattle.algorithms.specs.declared.first_values.InitializedAlgorithm.{InitializedAlgorithm}
 use Rattle.algorithm_texts.specs.Parts.{Term, term_of}
 use Rattle.algorithm_texts.specs.Operands.{names_of, declared_of}
-use Rattle.algorithm_texts.specs.Drafts.{head_of, extent_of, extents_of, answers_of, lines_of}
+use Rattle.algorithm_texts.specs.Drafts.{head_of, extent_of, extents_of, answers_of, claims_of, lines_of}
 use Rattle.algorithm_texts.specs.UnreachedLines.{starts_in}
 use Rattle.algorithm_texts.specs.Programs.{SpellsAlgorithm}
 
@@ -45,6 +45,11 @@ pub record AreHeadedAlike (a b : Algorithm) : Type 0 where
   pub declared : declared_of a ≡ declared_of b
   pub extents : extents_of a ≡ extents_of b
 
+-- the claims are the same, and the labels that they name are at the same places
+pub record AreClaimedAlike (a b : Algorithm) : Type 0 where
+  pub claims : claims_of a ≡ claims_of b
+  pub label_places : a.label_places.items ≡ b.label_places.items
+
 -- the head has the constants with their values
 pub record AreOneAlgorithm (a b : Algorithm) : Type 0 where
   pub head : head_of a ≡ head_of b
@@ -53,6 +58,7 @@ pub record AreOneAlgorithm (a b : Algorithm) : Type 0 where
   pub lasting : a.lasting ≡ b.lasting
   pub names : names_of a ≡ names_of b
   pub answers : answers_of a ≡ answers_of b
+  pub claims : AreClaimedAlike a b
   pub lines : lines_of a ≡ lines_of b
 
 pub record AreSpelledAlike (a b : InitializedAlgorithm) : Type 0 where

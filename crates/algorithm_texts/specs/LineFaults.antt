@@ -1,5 +1,5 @@
 -- The fault of a line that has no form. A line is read from the left: the first part that is not what is expected there decides.
-use Rattle.std.specs.Prelude.{ℕ, ◌==◌, nat_lt, Bool, ◌&&◌, ◌||◌, List, [], ◌∷◌, length, take, drop, slice_get, Option, Some, None, if◌then◌else◌, codes, bytes_eq, position}
+use Rattle.std.specs.Prelude.{ℕ, ◌==◌, nat_lt, Bool, false, ◌&&◌, ◌||◌, List, [], ◌∷◌, length, take, drop, slice_get, Option, Some, None, if◌then◌else◌, codes, bytes_eq, position}
 use Rattle.std.specs.List.{list_any}
 use Rattle.algorithms.specs.declared.condition.Comparison.TheVariants.{Equal}
 use Rattle.algorithms.specs.declared.fault.ReadFault.{ReadFault}
@@ -7,16 +7,17 @@ use Rattle.algorithms.specs.declared.fault.ReadFault.TheVariants.{NoHeader, BadF
 use Rattle.algorithm_texts.specs.declared.lines.Block.{Block}
 use Rattle.algorithm_texts.specs.declared.lines.Block.TheVariants.{If, Else, For}
 use Rattle.algorithm_texts.specs.declared.lines.Opened.{Opened}
-use Rattle.algorithm_texts.specs.declared.tokens.Sign.TheVariants.{Assign, Open, OpenIndex, Colon, Comparison}
+use Rattle.algorithm_texts.specs.declared.tokens.Sign.TheVariants.{Assign, Open, OpenIndex, Colon, Comma, Comparison}
 use Rattle.algorithm_texts.specs.declared.tokens.Token.{Token}
 use Rattle.algorithm_texts.specs.declared.tokens.Token.TheVariants.{Number as NumberToken, Word, Sign}
 use Rattle.algorithm_texts.specs.Parts.{Term, Number, Private, Me, Procs, Limit, Joined, OperandPart, Value, Pair, Condition}
 use Rattle.algorithm_texts.specs.Grammar.{Scope, is_among}
 use Rattle.algorithm_texts.specs.Stacks.{NextToken, Begins, Heads, Follows, OperandReading, reading, turn}
-use Rattle.algorithm_texts.specs.Fronts.{is_the_word, is_the_sign, letters_of, past_word, past_sign, is_over, named_by, value_tokens, value_rest, begins_no_simple}
+use Rattle.algorithm_texts.specs.Fronts.{is_me, is_the_word, is_the_sign, letters_of, past_word, past_sign, is_over, named_by, value_tokens, value_rest, begins_no_simple}
 use Rattle.algorithm_texts.specs.Drafts.{Drafted, DraftExtent, OneWord, OfProcesses, OfSize, OfRows}
 use Rattle.algorithm_texts.specs.LineDrafts.{scope_in, is_constant, has_declaration, new_name, name_set, index_in, with_names, read_value, read_condition, extent_or_one, read_brackets, read_word, read_until, read_swap_value, begins_swap, begins_word, is_no_word, read_test, is_looping, first_size, down_at_front, read_members}
-use Rattle.algorithm_texts.specs.TextDrafts.{call_words, undeclared_name, is_bound, atoms, is_me, owner_tokens, bound_size, read_bound, read_bound_and_start, size_before_home, read_size, read_extent, is_array, end_call, read_head_words}
+use Rattle.algorithm_texts.specs.NeverClaims.{FactsRead, begins_test, first_name, no_facts, phase_words, read_facts, read_named_processes, read_processes, read_value_fact, with_token}
+use Rattle.algorithm_texts.specs.TextDrafts.{call_words, undeclared_name, is_bound, atoms, owner_tokens, bound_size, read_bound, read_bound_and_start, size_before_home, read_size, read_extent, is_array, end_call, read_head_words}
 
 -- the fault of a part, where nothing is made of it, else that of what follows it
 abbrev pub fault_from : {A : Type 0} → Option A → ReadFault → (A → ReadFault) → ReadFault
@@ -392,11 +393,70 @@ constant_fault d tokens =
     fault_from (undeclared_name (scope_in d) d.names (slice_get tokens 0)) (undeclared_name_fault (slice_get tokens 0))
     (λ name. constant_value_fault (scope_in d) d.names (drop 1 tokens))
 
+-- ---- claims
+
+-- of a second process: the comma, the name, or the colon
+abbrev pub second_process_fault : Scope → List (List ℕ) → List Token → ReadFault
+second_process_fault scope names tokens =
+    fault_from (past_sign tokens Comma) BadForm
+    (λ rest. fault_from (undeclared_name scope names (slice_get rest 0)) (undeclared_name_fault (slice_get rest 0)) (λ name. BadForm))
+
+abbrev pub named_processes_fault : Scope → List Token → ReadFault
+named_processes_fault scope tokens =
+    fault_from (undeclared_name scope [] (slice_get tokens 0)) (undeclared_name_fault (slice_get tokens 0))
+    (λ name. second_process_fault scope (name ∷ []) (drop 1 tokens))
+
+-- of a shared word in a claim: the word, a name in its index that is not known, or one name too many
+abbrev pub word_fact_fault : Drafted → FactsRead → ReadFault
+word_fact_fault d r =
+    fault_from (read_word (scope_in d) d.extents r.names r.tokens) (shared_word_fault (scope_in d) d.extents r.names r.tokens)
+    (λ word. if length word.2 == length r.names then TooBig else UnknownName)
+
+-- of the name before `is` or `at`: no name, or one that is not known
+abbrev pub first_name_fault : FactsRead → ReadFault
+first_name_fault r = fault_from (letters_of (slice_get r.tokens 0)) BadForm (λ word. UnknownName)
+
+abbrev pub phase_fact_fault : FactsRead → ReadFault
+phase_fact_fault r =
+    fault_from (first_name r) (first_name_fault r) (λ name. fault_from (named_by phase_words (slice_get r.tokens 2)) BadForm (λ phase. TooBig))
+
+abbrev pub place_fact_fault : FactsRead → ReadFault
+place_fact_fault r =
+    fault_from (first_name r) (first_name_fault r)
+    (λ name. fault_from (new_name (slice_get r.tokens 2)) (new_name_fault (slice_get r.tokens 2)) (λ label. TooBig))
+
+abbrev pub test_fact_fault : FactsRead → ReadFault
+test_fact_fault r = if is_the_word (slice_get r.tokens 1) (codes "is") then phase_fact_fault r else place_fact_fault r
+
+abbrev pub fact_fault : Drafted → Token → FactsRead → ReadFault
+fact_fault d token r = fault_from (read_value_fact d (with_token token r)) (word_fact_fault d (with_token token r)) test_fact_fault
+
+-- of the last token that can not be read
+abbrev pub facts_fault : Drafted → FactsRead → List Token → ReadFault
+facts_fault d r [] = BadForm
+facts_fault d r (token ∷ tokens) = fault_from (read_facts d r (begins_test token) tokens) (facts_fault d r tokens) (fact_fault d token)
+
+-- of the condition between facts: a name that is not known, where it has a form
+abbrev pub claimed_condition_fault : Drafted → FactsRead → ReadFault
+claimed_condition_fault d r =
+    fault_from (read_condition (scope_in d) r.names r.tokens) (value_fault (scope_in d) r.names r.tokens) (λ c. UnknownName)
+
+abbrev pub claim_fault : Drafted → List Token → ReadFault
+claim_fault d tokens =
+    if list_any is_me tokens then BadForm
+    else fault_from (read_facts d (no_facts d) false tokens) (facts_fault d (no_facts d) tokens) (claimed_condition_fault d)
+
+abbrev pub never_fault : Drafted → List Token → ReadFault
+never_fault d tokens =
+    fault_from (read_processes (scope_in d) tokens) (named_processes_fault (scope_in d) (drop 1 tokens))
+    (λ processes. claim_fault (with_names processes.0 d) processes.1)
+
 abbrev pub declaration_fault : Drafted → List Token → ReadFault
 declaration_fault d tokens =
     if is_the_word (slice_get tokens 0) (codes "shared") then shared_fault d (drop 1 tokens)
     else if is_the_word (slice_get tokens 0) (codes "private") then private_fault d (drop 1 tokens)
     else if is_the_word (slice_get tokens 0) (codes "constant") then constant_fault d (drop 1 tokens)
+    else if is_the_word (slice_get tokens 0) (codes "never") then never_fault d (drop 1 tokens)
     else BadForm
 
 -- a block that is open comes first, then the form, then a call that is there already

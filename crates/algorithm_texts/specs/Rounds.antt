@@ -1,16 +1,16 @@
--- Rounds of local lines: places of the call that are reached, and come back to without an access.
+-- Rounds of local lines: places of the call that are reached, and come back to by gotos without an access.
 use Rattle.std.specs.Prelude.{◌≡◌, ℕ, Bool, true, false, not, ◌&&◌, List}
 use Rattle.std.specs.List.{count_by, list_any}
 use Rattle.algorithm_texts.specs.declared.flow.RunKind.TheVariants.{All}
 use Rattle.algorithm_texts.specs.declared.lines.CallRead.{CallRead}
 use Rattle.algorithm_texts.specs.Drafts.{Drafted}
 use Rattle.algorithm_texts.specs.FinishedDrafts.{is_in, is_within}
-use Rattle.algorithm_texts.specs.Runs.{ways_from, leads_to, is_access, IsPlaceReached, ReturnsSilently}
+use Rattle.algorithm_texts.specs.Runs.{ways_from, leads_to, is_access, IsPlaceReached, ReturnsByGoto}
 use Rattle.algorithm_texts.specs.Usage.{uses, passes_at}
 
--- a run comes to this place, and back to it without an access
+-- a run comes to this place, and back to it by gotos without an access
 abbrev pub IsOnRound : Drafted → CallRead → ℕ → Type 0
-IsOnRound d call at = IsPlaceReached d call at × ReturnsSilently d call at
+IsOnRound d call at = IsPlaceReached d call at × ReturnsByGoto d call at
 
 -- all such places are marked
 abbrev pub RoundsMarked : Drafted → CallRead → List Bool → Type 0
@@ -22,11 +22,11 @@ pub record LocalMarked (d : Drafted) (call : CallRead) (marks : List Bool) (at :
   pub marked : is_in marks at ≡ true
   pub silent : passes_at is_access (uses d.lines) at ≡ false
 
--- a place of the call that is marked, and to which a run comes back from it without an access
+-- a place of the call that is marked, and to which a run comes back from it by gotos without an access
 pub record ReturnsMarked (d : Drafted) (call : CallRead) (marks : List Bool) (at : ℕ) : Type 0 where
   pub within : is_within (call.«from», call.to) at ≡ true
   pub marked : is_in marks at ≡ true
-  pub returns : ReturnsSilently d call at
+  pub returns : ReturnsByGoto d call at
 
 -- each place of the call that is marked leads to one that is
 abbrev pub LeadOn : Drafted → CallRead → List Bool → Type 0

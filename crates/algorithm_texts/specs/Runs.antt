@@ -1,9 +1,9 @@
 -- Runs of a call, from line to line. Which way a branch goes is not asked.
-use Rattle.std.specs.Prelude.{◌≡◌, ◌⊎◌, ℕ, zero, suc, ◌+◌, ◌≤◌, ◌<◌, nat_eq, nat_lt, Bool, true, false, not, ◌&&◌, ◌||◌, List, [], slice_get, length, Option, Some, None, if◌then◌else◌}
+use Rattle.std.specs.Prelude.{◌≡◌, ◌⊎◌, ℕ, zero, suc, ◌+◌, ◌≤◌, ◌<◌, nat_eq, nat_lt, Bool, true, false, not, ◌&&◌, ◌||◌, List, [], ◌∷◌, slice_get, length, Option, Some, None, if◌then◌else◌}
 use Rattle.std.specs.List.{list_all, list_any}
 use Rattle.algorithms.specs.declared.algorithm.AlgorithmCall.{AlgorithmCall}
 use Rattle.algorithm_texts.specs.declared.flow.RunKind.{RunKind}
-use Rattle.algorithm_texts.specs.declared.flow.RunKind.TheVariants.{All, Silent, Without}
+use Rattle.algorithm_texts.specs.declared.flow.RunKind.TheVariants.{All, Silent, Forward, Without}
 use Rattle.algorithm_texts.specs.declared.lines.CallRead.{CallRead}
 use Rattle.algorithm_texts.specs.declared.lines.Jump.{Jump}
 use Rattle.algorithm_texts.specs.Drafts.{LineForm, Accessing, Noting, Going, Beginning, Repeating, Ending, PlacedLine, Drafted}
@@ -16,15 +16,29 @@ abbrev pub is_access : LineForm → Bool
 is_access (Accessing a) = true
 is_access other = false
 
--- whether a run of this kind goes on after a line: all do, those without an access, or those that do not set a name
+-- whether a run of this kind goes on after a line: all do, those without an access, such within a round of each loop, or those that
+-- do not set a name
 abbrev pub goes_on : RunKind → LineForm → Bool
 goes_on All form = true
 goes_on Silent form = not (is_access form)
+goes_on Forward form = not (is_access form)
 goes_on (Without name) form = not (sets name form || (begins_loop name form || ends_loop name form))
+
+-- the places to which a line leads but for the way back to the next round of a loop
+abbrev pub forward_ways : ℕ → ℕ → LineForm → List ℕ
+forward_ways least next (Repeating name members body) = next ∷ []
+forward_ways least next other = ways least next other
+
+-- the places to which a line leads runs of this kind
+abbrev pub kind_ways : RunKind → ℕ → ℕ → LineForm → List ℕ
+kind_ways All least next form = ways least next form
+kind_ways Silent least next form = ways least next form
+kind_ways Forward least next form = forward_ways least next form
+kind_ways (Without name) least next form = ways least next form
 
 abbrev pub ways_after : ℕ → RunKind → ℕ → Option PlacedLine → List ℕ
 ways_after least runs at None = []
-ways_after least runs at (Some line) = if goes_on runs line.form then ways least (at + 1) line.form else []
+ways_after least runs at (Some line) = if goes_on runs line.form then kind_ways runs least (at + 1) line.form else []
 
 -- the places to which a line of the call leads
 abbrev pub ways_from : Drafted → CallRead → RunKind → ℕ → List ℕ
@@ -102,10 +116,10 @@ is_line_in d call at = is_within (call.«from», call.to) at && nat_lt at (lengt
 abbrev pub leads_in : Drafted → CallRead → ℕ → Bool
 leads_in d call at = list_all (is_line_in d call) (ways_from d call All at)
 
--- from this place a run comes without an access to a line that leads back to it
-abbrev pub ReturnsSilently : Drafted → CallRead → ℕ → Type 0
-ReturnsSilently d call at =
-    (before : ℕ) × RunComesTo d call Silent (λ first. first ≡ at) before × (leads_to (ways_from d call Silent before) at ≡ true)
+-- from this place a run comes, without an access and within a round of each loop, to a line that leads back to it: a ring of gotos
+abbrev pub ReturnsByGoto : Drafted → CallRead → ℕ → Type 0
+ReturnsByGoto d call at =
+    (before : ℕ) × RunComesTo d call Forward (λ first. first ≡ at) before × (leads_to (ways_from d call Forward before) at ≡ true)
 
 -- runs of a call come to the line at this place, if the text has it
 abbrev pub LineReachedAt : Drafted → CallRead → ℕ → Type 0
@@ -134,11 +148,11 @@ NamesSetAt d call at = (name : ℕ) → name < length d.names → ReadsUnset d c
 abbrev pub RunsSet : Drafted → CallRead → Type 0
 RunsSet d call = (name at : ℕ) → name < length d.names → ReadsUnset d call name at → ⊥
 
--- no run of a call comes to this place, and back to it without an access
+-- no run of a call comes to this place, and back to it by gotos without an access
 abbrev pub NotOnRound : Drafted → CallRead → ℕ → Type 0
-NotOnRound d call at = IsPlaceReached d call at → ReturnsSilently d call at → ⊥
+NotOnRound d call at = IsPlaceReached d call at → ReturnsByGoto d call at → ⊥
 
--- runs of a call come to no line again without an access
+-- runs of a call come to no line again by gotos without an access
 abbrev pub NoneReturns : Drafted → CallRead → Type 0
 NoneReturns d call = (at : ℕ) → NotOnRound d call at
 

@@ -4,6 +4,8 @@ use Rattle.std.specs.List.{prefix_len, list_any}
 use Rattle.algorithms.specs.declared.algorithm.Algorithm.{Algorithm}
 use Rattle.algorithms.specs.declared.algorithm.AlgorithmCall.{AlgorithmCall}
 use Rattle.algorithms.specs.declared.algorithm.AlgorithmCall.TheVariants.{Lock, Unlock, Recover, Withdraw}
+use Rattle.algorithms.specs.declared.algorithm.ProgressPromise.{ProgressPromise}
+use Rattle.algorithms.specs.declared.algorithm.ProgressPromise.TheVariants.{DeadlockFreedom, StarvationFreedom}
 use Rattle.algorithms.specs.declared.algorithm.Promises.{Promises}
 use Rattle.algorithms.specs.declared.condition.Comparison.TheVariants.{Equal}
 use Rattle.algorithms.specs.declared.expression.Operator.TheVariants.{Product}
@@ -13,10 +15,12 @@ use Rattle.algorithm_texts.specs.declared.tokens.Sign.TheVariants.{Comma, OpenIn
 use Rattle.algorithm_texts.specs.declared.tokens.Token.{Token}
 use Rattle.algorithm_texts.specs.declared.tokens.Token.TheVariants.{Number as NumberToken, Word, Sign}
 use Rattle.algorithm_texts.specs.Parts.{Term, Number, Private, Me, Procs, Limit, Joined, ◌>>=◌}
-use Rattle.algorithm_texts.specs.Grammar.{Scope, is_among}
-use Rattle.algorithm_texts.specs.Fronts.{is_the_word, is_the_sign, value_if, past_word, past_sign, is_over, named_by, value_tokens, value_rest}
+use Rattle.algorithm_texts.specs.Grammar.{Scope}
+use Rattle.algorithm_texts.specs.Fronts.{is_me, is_the_word, is_the_sign, value_if, past_word, past_sign, is_over, named_by, value_tokens, value_rest}
 use Rattle.algorithm_texts.specs.Drafts.{Drafted, DraftExtent, OneWord, OfProcesses, OfSize, OfRows}
-use Rattle.algorithm_texts.specs.LineDrafts.{read_value, read_brackets, scope_in, new_name, has_declaration, with_names, read_statement}
+use Rattle.algorithm_texts.specs.LineDrafts.{read_value, read_brackets, scope_in, new_name, with_names, read_statement}
+use Rattle.algorithm_texts.specs.NeverClaims.{read_never}
+pub use Rattle.algorithm_texts.specs.NewNames.{undeclared_name}
 
 -- ---- calls
 
@@ -63,12 +67,6 @@ read_call d tokens last = do
   if is_over (drop 1 tokens) then (if has_call call now.calls then None else Some (with_call call now)) else None
 
 -- ---- declarations
-
--- a name that is not declared yet
-abbrev pub undeclared_name : Scope → List (List ℕ) → Option Token → Option (List ℕ)
-undeclared_name scope names token = do
-  word ← new_name token
-  if has_declaration scope word || is_among names word then None else Some word
 
 -- a value of numbers, `procs` and `limit` alone
 abbrev pub is_bound : Term → Bool
@@ -185,9 +183,6 @@ owner_token token = if is_the_word (Some token) (codes "owner") then Word (codes
 abbrev pub owner_tokens : Bool → List Token → List Token
 owner_tokens each tokens = if each then map owner_token tokens else tokens
 
-abbrev pub is_me : Token → Bool
-is_me token = is_the_word (Some token) (codes "me")
-
 -- a value of numbers, `procs`, `limit` and, of an array, the index of the word
 abbrev pub is_owner_value : Bool → Term → Bool
 is_owner_value each (Number n) = true
@@ -273,6 +268,7 @@ read_declaration d tokens =
     if is_the_word (slice_get tokens 0) (codes "shared") then read_shared d (drop 1 tokens)
     else if is_the_word (slice_get tokens 0) (codes "private") then read_private d (drop 1 tokens)
     else if is_the_word (slice_get tokens 0) (codes "constant") then read_constant d (drop 1 tokens)
+    else if is_the_word (slice_get tokens 0) (codes "never") then read_never d (drop 1 tokens)
     else None
 
 -- a line after the first two, where the line before it has this number
@@ -337,15 +333,36 @@ bound_at_front tokens word =
     if (promise_at_front tokens word).0 then read_within (promise_at_front tokens word).1 >>= with_bound
     else Some (None, (promise_at_front tokens word).1)
 
--- the bounds on the own steps of the exit, of the recovery and of the doorway, up to the end of the line. Without order there is no
--- doorway
+abbrev pub freedom_next : List Token → Option (Bool × List Token)
+freedom_next rest = Some (true, rest)
+
+-- this word and `freedom`, where they come next
+abbrev pub freedom_at_front : List Token → List ℕ → Option (Bool × List Token)
+freedom_at_front tokens word =
+    if (promise_at_front tokens word).0 then past_word (promise_at_front tokens word).1 (codes "freedom") >>= freedom_next
+    else Some (false, (promise_at_front tokens word).1)
+
+abbrev pub starvation_at_front : List Token → Option (Option ProgressPromise × List Token)
+starvation_at_front tokens = do
+  freedom ← freedom_at_front tokens (codes "starvation")
+  if freedom.0 then Some (Some StarvationFreedom, freedom.1) else Some (None, freedom.1)
+
+-- `deadlock freedom` or `starvation freedom`, where it comes next
+abbrev pub progress_at_front : List Token → Option (Option ProgressPromise × List Token)
+progress_at_front tokens = do
+  freedom ← freedom_at_front tokens (codes "deadlock")
+  if freedom.0 then Some (Some DeadlockFreedom, freedom.1) else starvation_at_front freedom.1
+
+-- the bounds on the own steps of the exit, of the recovery and of the doorway, and what is promised of calls under way, up to the end
+-- of the line. Without order there is no doorway
 abbrev pub read_bounds : Bool → Bool → List Token → Option Promises
 read_bounds reentry order tokens = do
   exit ← bound_at_front tokens (codes "exit")
   recovery ← bound_at_front exit.1 (codes "recovery")
   doorway ← bound_at_front recovery.1 (codes "doorway")
-  value_if (is_over doorway.1 && not (is_some doorway.0 && not order))
-      (Some (record { reentry = reentry; order = order; exit = exit.0; recovery = recovery.0; doorway = doorway.0 }))
+  progress ← progress_at_front doorway.1
+  value_if (is_over progress.1 && not (is_some doorway.0 && not order))
+      (Some (record { reentry = reentry; order = order; exit = exit.0; recovery = recovery.0; doorway = doorway.0; progress = progress.0 }))
 
 -- what follows `exclusion`
 abbrev pub read_further_promises : List Token → Option Promises
@@ -371,6 +388,7 @@ pub record IsEmpty (a : Algorithm) (name : List ℕ) (least most : ℕ) : Type 0
   pub none_last : a.lasting ≡ 0
   pub no_answers : a.answers.items ≡ []
   pub no_lines : a.lines.items ≡ []
+  pub no_claims : a.claims.items ≡ []
   pub no_entries : a.entries ≡ record { lock = 0; unlock = 0; recover = None; withdraw = None }
 
 -- ---- whole texts
@@ -408,6 +426,8 @@ empty_draft head promises number = record {
   labels = [];
   jumps = [];
   calls = [];
+  claims = [];
+  claim_labels = [];
 }
 
 abbrev pub with_number : ℕ → Drafted → Drafted

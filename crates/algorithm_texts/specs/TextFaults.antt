@@ -12,6 +12,7 @@ use Rattle.algorithms.specs.declared.fault.ReadFault.{ReadFault}
 use Rattle.algorithms.specs.declared.fault.ReadFault.TheVariants.{NoHeader, NoNewline, TooBig, NameTaken, UnknownName, NotAssignable, BadBlock, BadLabel, Unset, Endless, NoStep, FallsOff, BadDeed, BadCall, NeverReached}
 use Rattle.algorithms.specs.declared.line.AlgorithmDeed.TheVariants.{Enter, Leave}
 use Rattle.algorithm_texts.specs.declared.lines.CallRead.{CallRead}
+use Rattle.algorithm_texts.specs.declared.lines.ClaimLabel.{ClaimLabel}
 use Rattle.algorithm_texts.specs.declared.lines.Jump.{Jump}
 use Rattle.algorithm_texts.specs.declared.lines.Label.{Label}
 use Rattle.algorithm_texts.specs.declared.tokens.Token.{Token}
@@ -19,6 +20,7 @@ use Rattle.algorithm_texts.specs.Drafts.{LineForm, Accessing, PlacedLine, Drafte
 use Rattle.algorithm_texts.specs.FinishedDrafts.{is_label_in, is_within, target_of, call_in, finished_draft}
 use Rattle.algorithm_texts.specs.Lawful.{LabelsDiffer, ReadsKnown, SetsFree, LineFitsIn, AllLinesFit, CallsFit, NotesDeed}
 use Rattle.algorithm_texts.specs.LineFaults.{promises_fault, head_fault, line_fault}
+use Rattle.algorithm_texts.specs.NeverClaims.{claimed_places, has_no_place}
 use Rattle.algorithm_texts.specs.TextDrafts.{Spoken, read_head, read_promises, read_line, read_text, empty_draft, end_call, with_number}
 use Rattle.algorithm_texts.specs.TextLines.{SaysBefore, SaysUpTo, TextSays, IsFirstFaultyLine, and_line, is_no_feed}
 use Rattle.algorithm_texts.specs.Tokens.{LineSays}
@@ -248,6 +250,15 @@ IsFaultOfAllCalls d fault =
     ⊎ ((has_both_calls d ≡ true) × (IsOfFirst (KindCallFits d) (IsFaultOfKindCall d fault) all_kinds
     ⊎ (((kind : AlgorithmCall) → KindCallFits d kind) × IsFaultOfWithdraw d fault)))))
 
+-- ---- round three, at its end: the labels that claims name
+
+-- the first of them that is in no call, or in two, by the line of its claim
+abbrev pub IsFaultOfClaims : Drafted → AlgorithmFault → Type 0
+IsFaultOfClaims d fault = (claimed : ClaimLabel) × (find (has_no_place d) d.claim_labels ≡ Some claimed) × (fault ≡ fault_of claimed.number BadLabel)
+
+abbrev pub ClaimsHavePlaces : Drafted → Type 0
+ClaimsHavePlaces d = (places : List ℕ) × (claimed_places d ≡ Some places)
+
 -- ---- round four: what runs may do
 
 -- a run goes on past the call's lines: the last of them is named
@@ -300,9 +311,13 @@ IsFaultOfDeeds d fault = IsFaultOfEither d (NotesDeed d d.head.entries.lock Ente
 abbrev pub IsFaultOfFlow : Drafted → AlgorithmFault → Type 0
 IsFaultOfFlow d fault = IsFaultOfAllRuns d fault ⊎ (AllRuns d × (IsFaultOfWays d fault ⊎ IsFaultOfDeeds d fault))
 
--- rounds three and four, in the draft that was read: its calls, then what the runs of the draft that is made of it do
+-- in a draft whose calls fit: the labels of its claims, then round four
+abbrev pub IsFaultOfFitting : Drafted → AlgorithmFault → Type 0
+IsFaultOfFitting d fault = IsFaultOfClaims d fault ⊎ (ClaimsHavePlaces d × IsFaultOfFlow d fault)
+
+-- rounds three and four, in the draft that was read: its calls, then its claims, and what the runs of the draft that is made of it do
 abbrev pub IsFaultOfDraft : Drafted → AlgorithmFault → Type 0
-IsFaultOfDraft d fault = IsFaultOfAllCalls d fault ⊎ ((now : Drafted) × (finished_draft d ≡ Some now) × CallsFit now × IsFaultOfFlow now fault)
+IsFaultOfDraft d fault = IsFaultOfAllCalls d fault ⊎ ((now : Drafted) × (finished_draft d ≡ Some now) × CallsFit now × IsFaultOfFitting now fault)
 
 -- the lines of a text make this draft
 abbrev pub MakesDraft : List ℕ → Drafted → Type 0

@@ -7,8 +7,9 @@ use Rattle.algorithms.specs.declared.first_values.FirstValues.{FirstValues}
 use Rattle.algorithms.specs.declared.first_values.InitializedAlgorithm.{InitializedAlgorithm}
 use Rattle.algorithm_texts.specs.Operands.{names_of, declared_of}
 use Rattle.algorithm_texts.specs.Parts.{Term}
-use Rattle.algorithm_texts.specs.Drafts.{LineForm, Ending, PlacedLine, head_of, extents_of, answers_of, lines_of, start_term, Drafted}
+use Rattle.algorithm_texts.specs.Drafts.{LineForm, Ending, PlacedLine, head_of, extents_of, answers_of, claims_of, lines_of, start_term, Drafted}
 use Rattle.algorithm_texts.specs.FinishedDrafts.{is_in, is_way, ways}
+use Rattle.algorithm_texts.specs.NeverClaims.{claimed_places}
 use Rattle.algorithm_texts.specs.Runs.{RunsComeTo}
 
 -- just the places to which runs come are marked
@@ -68,6 +69,8 @@ pub record IsDraftOf (d : Drafted) (a : Algorithm) : Type 0 where
   pub names : names_of a ≡ d.names
   pub answers : answers_of a ≡ d.answers
   pub lines : EndUnreached d (lines_of a)
+  pub claims : claims_of a ≡ d.claims
+  pub label_places : Some a.label_places.items ≡ claimed_places d
 
 -- the first values of the words of each declaration, where there are some
 abbrev pub starts_in : Option FirstValues → Option (List (Option Term))

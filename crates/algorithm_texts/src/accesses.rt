@@ -179,7 +179,7 @@ impl Draft {
     }
 
     /// A shared word at the front, with its index, and the tokens after it.
-    fn word<'t>(
+    pub fn word<'t>(
         &mut self,
         alloc: Global,
         tokens: &'t [Token],

@@ -45,6 +45,7 @@ fn empty_algorithm(
             exit: None,
             recovery: None,
             doorway: None,
+            progress: None,
         },
         constants: Vec::new(alloc),
         declarations: Vec::new(alloc),
@@ -58,6 +59,8 @@ fn empty_algorithm(
             recover: None,
             withdraw: None,
         },
+        claims: Vec::new(alloc),
+        label_places: Vec::new(alloc),
     })
 }
 
@@ -224,7 +227,7 @@ impl Draft {
         check_end(after(tokens, 1))
     }
 
-    /// Reads a declaration, which begins with `shared`, `private` or `constant`.
+    /// Reads a declaration, which begins with `shared`, `private`, `constant` or `never`.
     fn declaration(&mut self, alloc: Global, tokens: &[Token]) -> Result<(), ReadFault>
         ensures { Drafts (draft_view self.new) result (read_declaration (draft_view self.old) tokens.now)
             (declaration_fault (draft_view self.old) tokens.now) }
@@ -235,6 +238,8 @@ impl Draft {
             self.take_private(alloc, after(tokens, 1))
         } else if is_word(tokens.first(), b"constant") {
             self.take_constant(alloc, after(tokens, 1))
+        } else if is_word(tokens.first(), b"never") {
+            self.take_never(alloc, after(tokens, 1))
         } else {
             Err(ReadFault::BadForm)
         }

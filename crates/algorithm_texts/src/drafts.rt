@@ -175,6 +175,7 @@ fn new_draft(alloc: Global, algorithm: Algorithm, promises: Promises, number: u6
         labels: Vec::new(alloc),
         jumps: Vec::new(alloc),
         calls: Vec::new(alloc),
+        claim_labels: Vec::new(alloc),
         number,
         starts: Vec::new(alloc),
         says_values: false,

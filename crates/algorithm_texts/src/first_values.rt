@@ -3,12 +3,13 @@
 ghost use Rattle.std.specs.Prelude.{◌≡◌, map, take, drop, position, Some, Ok, IfOk, IfErr, MatchResult};
 ghost use Rattle.std.specs.List.{list_any};
 ghost use Rattle.algorithms.specs.declared.fault.ReadFault.TheVariants.{OutOfMemory as NoMemory};
+ghost use Rattle.algorithm_texts.specs.Fronts.{is_me};
 ghost use Rattle.algorithm_texts.specs.Parts.{term_of};
 ghost use Rattle.algorithm_texts.specs.Operands.{RefusesAs};
 ghost use Rattle.algorithm_texts.specs.Drafts.{draft_view, start_term};
 ghost use Rattle.algorithm_texts.specs.LineDrafts.{scope_in, with_names, read_value};
 ghost use Rattle.algorithm_texts.specs.LineFaults.{value_fault, owner_value_fault, start_fault};
-ghost use Rattle.algorithm_texts.specs.TextDrafts.{is_starts, bound_size, owner_token, owner_tokens, is_me, is_owner_value, read_owner_value, read_start};
+ghost use Rattle.algorithm_texts.specs.TextDrafts.{is_starts, bound_size, owner_token, owner_tokens, is_owner_value, read_owner_value, read_start};
 
 use crate::lines::Draft;
 use crate::parts::{after_word, split_value};
@@ -74,7 +75,7 @@ fn is_me(token: &Token) -> bool
 }
 
 /// Whether one of the tokens is the word `me`.
-fn has_me(tokens: &[Token]) -> bool
+pub fn has_me(tokens: &[Token]) -> bool
     ensures { result ≡ list_any is_me tokens.now }
 {
     tokens.iter().any(|token| is_me(token))

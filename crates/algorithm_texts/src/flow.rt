@@ -5,7 +5,7 @@ ghost use Rattle.std.specs.List.{find};
 ghost use Rattle.algorithm_texts.specs.Drafts.{draft_view, form_of, line_of, local_form};
 ghost use Rattle.algorithm_texts.specs.FinishedDrafts.{is_in, is_within, ways};
 ghost use Rattle.algorithm_texts.specs.Marks.{places_of_ways, is_free, free_of, free_way, past_marked, marks_from, IsClosed, KeepsMarks, MarksReached};
-ghost use Rattle.algorithm_texts.specs.Runs.{is_access, goes_on, ways_from, RunComesTo, IsReachedWithout, way_past, past_from};
+ghost use Rattle.algorithm_texts.specs.Runs.{is_access, goes_on, forward_ways, kind_ways, ways_from, RunComesTo, IsReachedWithout, way_past, past_from};
 
 use crate::checks::is_within;
 use crate::lines::{CallRead, Draft};
@@ -21,6 +21,8 @@ pub enum RunKind {
     All,
     /// Those without an access.
     Silent,
+    /// Those without an access, within a round of each loop.
+    Forward,
     /// Those that do not set this name.
     Without(usize),
 }
@@ -93,6 +95,41 @@ fn form_ways(form: &LineKind, least: u64, next: usize) -> Ways
     }
 }
 
+/// Where a local line leads but for the way back to the next round of a loop.
+fn forward_local_ways(line: &LocalLine, least: u64, next: usize) -> Ways
+    ensures { places_of_ways result ≡ forward_ways least next (local_form line.now) }
+{
+    match line {
+        LocalLine::Next { .. } => one_way(next),
+        LocalLine::Assign { .. }
+        | LocalLine::Note(_)
+        | LocalLine::Goto(_)
+        | LocalLine::Branch { .. }
+        | LocalLine::First { .. } => local_ways(line, least, next),
+    }
+}
+
+/// Where a line leads but for the way back to the next round of a loop.
+fn forward_form_ways(form: &LineKind, least: u64, next: usize) -> Ways
+    ensures { places_of_ways result ≡ forward_ways least next (form_of form.now) }
+{
+    match form {
+        LineKind::Access(_) => one_way(next),
+        LineKind::Local(line) => forward_local_ways(line, least, next),
+        LineKind::Done(_) => no_way(),
+    }
+}
+
+/// Where a line leads runs of this kind.
+fn kind_ways(runs: RunKind, form: &LineKind, least: u64, next: usize) -> Ways
+    ensures { places_of_ways result ≡ kind_ways runs least next (form_of form.now) }
+{
+    match runs {
+        RunKind::All | RunKind::Silent | RunKind::Without(_) => form_ways(form, least, next),
+        RunKind::Forward => forward_form_ways(form, least, next),
+    }
+}
+
 /// Whether a line loads or stores a word.
 pub fn is_access(form: &LineKind) -> bool
     ensures { result ≡ is_access (form_of form.now) }
@@ -109,7 +146,7 @@ fn goes_on(runs: RunKind, form: &LineKind) -> bool
 {
     match runs {
         RunKind::All => true,
-        RunKind::Silent => !is_access(form),
+        RunKind::Silent | RunKind::Forward => !is_access(form),
         RunKind::Without(name) => {
             !(sets(form, name) || (begins_loop(form, name) || ends_loop(form, name)))
         }
@@ -231,10 +268,11 @@ impl Draft {
     fn ways_of(&self, runs: RunKind, place: usize, form: &LineKind) -> Ways
         requires { place < 2 ^ 64 - 1 }
         ensures { places_of_ways result
-            ≡ (if goes_on runs (form_of form.now) then ways (draft_view self.now).head.least (place + 1) (form_of form.now) else []) }
+            ≡ (if goes_on runs (form_of form.now)
+            then kind_ways runs (draft_view self.now).head.least (place + 1) (form_of form.now) else []) }
     {
         if goes_on(runs, form) {
-            form_ways(form, self.algorithm.least, place + 1)
+            kind_ways(runs, form, self.algorithm.least, place + 1)
         } else {
             no_way()
         }

@@ -8,6 +8,8 @@ mod accesses;
 mod blocks;
 mod calls;
 mod checks;
+mod claim_labels;
+mod claims;
 mod constants;
 mod drafts;
 mod extents;

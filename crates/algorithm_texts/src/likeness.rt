@@ -8,8 +8,10 @@ ghost use Rattle.algorithm_texts.specs.Operands.{names_of};
 ghost use Rattle.algorithm_texts.specs.UnreachedLines.{starts_in};
 ghost use Rattle.algorithm_texts.specs.Likeness.{AreOneAlgorithm, AreDeclaredAlike, AreHeadedAlike, AreOneDeclaration, AreSpelledAlike, AreTitledAlike, named_value, named_values};
 
+mod claims;
 mod values;
 
+use crate::likeness::claims::is_claimed_alike;
 use crate::likeness::values::{same_condition, same_condition_if, same_value, same_value_if};
 use algorithms::algorithm::{Algorithm, Declaration, Entries, Extent, NamedConstant, Promises};
 use algorithms::expression::Expression;
@@ -374,8 +376,8 @@ fn same_promises(left: Promises, right: Promises) -> bool
     ensures { IsTrue result ↔ (left ≡ right) }
 {
     (left.reentry == right.reentry && left.order == right.order)
-        && (left.exit == right.exit
-            && (left.recovery == right.recovery && left.doorway == right.doorway))
+        && (left.exit == right.exit && left.recovery == right.recovery)
+        && (left.doorway == right.doorway && left.progress == right.progress)
 }
 
 /// Whether two algorithms have the same name, numbers of processes and promises.
@@ -410,13 +412,14 @@ fn same_answers(left: &Algorithm, right: &Algorithm) -> bool
     same_names(left.answers.as_slice(), right.answers.as_slice())
 }
 
-/// Whether two algorithms have the same declarations, names, answers and lines.
+/// Whether two algorithms have the same declarations, names, answers, claims and lines.
 fn same_algorithm(left: &Algorithm, right: &Algorithm) -> bool
     ensures { IsTrue result ↔ AreOneAlgorithm left.now right.now }
 {
     same_head(left, right)
         && left.lasting == right.lasting
-        && (same_private_names(left, right) && same_answers(left, right))
+        && (same_private_names(left, right)
+            && (same_answers(left, right) && is_claimed_alike(left, right)))
         && same_lines(left.lines.as_slice(), right.lines.as_slice())
 }
 

@@ -53,6 +53,13 @@ pub struct Jump {
     pub name: LineWord,
 }
 
+/// A label that a claim names, and the line of the claim.
+#[derive(Clone, Copy)]
+pub struct ClaimLabel {
+    pub name: LineWord,
+    pub number: u64,
+}
+
 /// A call that was read: its lines, from a place to a place, and the number of the line that begins it.
 #[derive(Clone, Copy)]
 pub struct CallRead {
@@ -78,6 +85,8 @@ pub struct Draft {
     pub labels: Vec<Label>,
     pub jumps: Vec<Jump>,
     pub calls: Vec<CallRead>,
+    /// The labels that claims name, by their places in the claims.
+    pub claim_labels: Vec<ClaimLabel>,
     /// The number of the line that is read.
     pub number: u64,
 }

@@ -8,7 +8,7 @@ ghost use Rattle.algorithm_texts.specs.Operands.{MakesName, MakesWord, names_of,
 ghost use Rattle.algorithms.specs.declared.fault.ReadFault.TheVariants.{OutOfMemory as NoMemory, TooBig as ManyNames};
 ghost use Rattle.algorithm_texts.specs.LineDrafts.{is_constant, has_declaration, is_name, new_name, name_set};
 ghost use Rattle.algorithm_texts.specs.LineFaults.{new_name_fault, name_set_fault, name_read_fault, undeclared_name_fault};
-ghost use Rattle.algorithm_texts.specs.TextDrafts.{undeclared_name};
+ghost use Rattle.algorithm_texts.specs.NewNames.{undeclared_name};
 
 use crate::constants::{constant_named, is_constant_name};
 use crate::tokens::{LineWord, Token};
@@ -103,7 +103,7 @@ pub fn declaration_of(algorithm: &Algorithm, word: &[u8]) -> Option<usize>
 }
 
 /// The index of a private name.
-fn index_of(algorithm: &Algorithm, word: &[u8]) -> Option<usize>
+pub fn index_of(algorithm: &Algorithm, word: &[u8]) -> Option<usize>
     ensures { result ≡ position (λ name. bytes_eq name word.now) (names_of algorithm.now) }
 {
     algorithm
@@ -174,6 +174,18 @@ fn add_name(alloc: Global, algorithm: &mut Algorithm, word: &[u8]) -> Result<usi
     }
     algorithm.names.push(String::from_utf8_lossy(alloc, word)?)?;
     Ok(index)
+}
+
+/// Adds a name after the others. `TooBig` where there are as many as can be.
+pub fn push_name(alloc: Global, algorithm: &mut Algorithm, word: &[u8]) -> Result<(), ReadFault>
+    requires { IsAscii word.now }
+    ensures name { MatchResult result
+        (λ _. (length (names_of algorithm.old) < 32) × (names_of algorithm.new ≡ names_of algorithm.old ++ word.now ∷ []))
+        (λ fault. (fault ≡ NoMemory) ⊎ ((32 ≤ length (names_of algorithm.old)) × (fault ≡ ManyNames))) }
+    ensures kept { algorithm.new ≡ record algorithm.old { names = algorithm.new.names } }
+{
+    add_name(alloc, algorithm, word)?;
+    Ok(())
 }
 
 /// The index of a private name, which is added where it is new.

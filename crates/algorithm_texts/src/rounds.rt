@@ -1,4 +1,4 @@
-//! Where local lines of a call go round.
+//! Where local lines of a call go round by gotos.
 
 ghost use Rattle.std.specs.Prelude.{◌≡◌, ◌⊎◌, ◌+◌, ◌<◌, ◌≤◌, ◌&&◌, ℕ, true, false, not, Some, [], OnOk, IfOk, IfErr, MatchBool, length, slice_set, if◌then◌else◌};
 ghost use Rattle.std.specs.List.{list_any};
@@ -8,7 +8,7 @@ ghost use Rattle.algorithm_texts.specs.Drafts.{draft_view};
 ghost use Rattle.algorithm_texts.specs.FinishedDrafts.{is_in, is_within};
 ghost use Rattle.algorithm_texts.specs.Marks.{KeepsMarks, MarksReached, and_then, places_of_ways};
 ghost use Rattle.algorithm_texts.specs.Rounds.{LeadOn, LocalMarked, ReturnsMarked, RoundsMarked, count_marks, is_loose, leads_on};
-ghost use Rattle.algorithm_texts.specs.Runs.{NoneReturns, NotOnRound, ReturnsSilently, is_access, leads_to, ways_from};
+ghost use Rattle.algorithm_texts.specs.Runs.{NoneReturns, NotOnRound, ReturnsByGoto, is_access, leads_to, ways_from};
 ghost use Rattle.algorithm_texts.specs.TextFaults.{IsFaultAtFirst, OrMemory};
 ghost use Rattle.algorithm_texts.specs.TextLines.{IsRefusalOf};
 ghost use Rattle.algorithm_texts.specs.Usage.{uses, passes_at};
@@ -161,8 +161,8 @@ impl Draft {
         }
     }
 
-    /// `Endless` at the first line of those that local lines lead round: they are left where those at the ends are taken out again
-    /// and again.
+    /// `Endless` at the first line of those that gotos lead round without an access. They are among those that are left where local
+    /// lines at the ends are taken out again and again.
     pub fn check_ends(
         &self,
         alloc: Global,
@@ -224,18 +224,18 @@ impl Draft {
         }
     }
 
-    /// Whether a run without an access comes from a place back to it.
+    /// Whether a run by gotos without an access comes from a place back to it.
     fn comes_back(&self, alloc: Global, call: CallRead, place: usize) -> Result<bool, AllocError>
-        ensures yes { IfOk result (λ back. back ≡ true → ReturnsSilently (draft_view self.now) call place) }
-        ensures no { IfOk result (λ back. ReturnsSilently (draft_view self.now) call place → back ≡ true) }
+        ensures yes { IfOk result (λ back. back ≡ true → ReturnsByGoto (draft_view self.now) call place) }
+        ensures no { IfOk result (λ back. ReturnsByGoto (draft_view self.now) call place → back ≡ true) }
     {
         let mut marks = self.marks_from(alloc, call, false)?;
-        self.follow(call, RunKind::Silent, place, marks.as_mut_slice());
-        self.spread(call, RunKind::Silent, marks.as_mut_slice());
+        self.follow(call, RunKind::Forward, place, marks.as_mut_slice());
+        self.spread(call, RunKind::Forward, marks.as_mut_slice());
         Ok(is_in(marks.as_slice(), place))
     }
 
-    /// Whether a place is left, and a run without an access comes from it back to it.
+    /// Whether a place is left, and a run by gotos without an access comes from it back to it.
     fn is_on_round(
         &self,
         alloc: Global,
@@ -244,9 +244,9 @@ impl Draft {
         place: usize,
     ) -> Result<bool, AllocError>
         ensures yes { IfOk result (λ on. on ≡ true
-            → (is_in left.now place ≡ true) × ReturnsSilently (draft_view self.now) call place) }
+            → (is_in left.now place ≡ true) × ReturnsByGoto (draft_view self.now) call place) }
         ensures no { IfOk result (λ on. is_in left.now place ≡ true
-            → ReturnsSilently (draft_view self.now) call place → on ≡ true) }
+            → ReturnsByGoto (draft_view self.now) call place → on ≡ true) }
     {
         if is_in(left, place) {
             self.comes_back(alloc, call, place)
@@ -255,7 +255,7 @@ impl Draft {
         }
     }
 
-    /// `Endless` at the first place of those that are left from which a run without an access comes back to it.
+    /// `Endless` at the first place of those that are left from which a run by gotos without an access comes back to it.
     fn check_left(&self, alloc: Global, call: CallRead, left: &[bool]) -> Result<(), AlgorithmFault>
         ensures ok { OnOk result ((at : ℕ) → ReturnsMarked (draft_view self.now) call left.now at → ⊥) }
         ensures first { IfErr result (λ fault. OrMemory fault (IsFaultAtFirst (draft_view self.now).lines Endless

@@ -20,6 +20,7 @@ ghost use Rattle.algorithm_texts.specs.TextFaults.{FailsFirst, IsFaultOfAllRuns,
 ghost use Rattle.algorithm_texts.specs.TextLines.{IsRefusalOf};
 ghost use Rattle.algorithm_texts.specs.TextDrafts.{is_call};
 
+use crate::claim_labels::claimed_places;
 use crate::drafts::forms;
 use crate::flow::mark_all;
 use crate::lines::{CallRead, Draft};
@@ -330,9 +331,9 @@ fn first_values(starts: Vec<Option<Expression>>, says_values: bool) -> Option<Fi
 /// Reads an algorithm from a text, with the first values of its words.
 ///
 /// Faults are looked for in four rounds, and the first that is found is named: those of the characters and tokens of all lines;
-/// those of forms, declared names, blocks and calls; call by call those of labels, names and deeds; and call by call those of
-/// what runs may do, and at last that the lock says `enter` and the unlock `leave`. Calls are taken in the order lock, unlock,
-/// recover, withdraw, whatever their order in the text, and in each call labels before names and deeds.
+/// those of forms, declared names, blocks and calls; call by call those of labels, names and deeds, and then the labels that claims
+/// name; and call by call those of what runs may do, and at last that the lock says `enter` and the unlock `leave`. Calls are taken
+/// in the order lock, unlock, recover, withdraw, whatever their order in the text, and in each call labels before names and deeds.
 pub fn read_algorithm(alloc: Global, text: &[u8]) -> Result<InitializedAlgorithm, AlgorithmFault>
     ensures spells { IfOk result (λ a. SpellsAlgorithm text.now a) }
     ensures ends { IfOk result (λ a. LocalLinesEnd a.algorithm) }
@@ -343,15 +344,17 @@ pub fn read_algorithm(alloc: Global, text: &[u8]) -> Result<InitializedAlgorithm
     ensures first { IfErr result (λ fault. OrMemory fault (IsFaultOfText text.now fault)) }
 {
     let mut draft = fitting_draft(alloc, text)?;
+    let label_places = claimed_places(alloc, &draft)?;
     check_flow(alloc, &mut draft)?;
     check_deeds(&draft)?;
     let Draft {
-        algorithm,
+        mut algorithm,
         starts,
         says_values,
         ..
     } = draft;
     let first_values = first_values(starts, says_values);
+    algorithm.label_places = label_places;
     Ok(InitializedAlgorithm {
         algorithm,
         first_values,

@@ -3,6 +3,8 @@
 ghost use Rattle.std.specs.Prelude.{◌↔◌, IfOk, IsTrue, string_bytes};
 ghost use Rattle.algorithm_texts.specs.Programs.{SpellsAlgorithm};
 
+mod claims;
+mod labels;
 mod operands;
 mod page;
 mod places;
@@ -10,9 +12,13 @@ mod statements;
 
 use crate::likeness::is_alike;
 use crate::whole::read_algorithm;
+use crate::writer::claims::{put_due_claims, put_other_claims};
+use crate::writer::labels::label_places;
 use crate::writer::operands::{first_of, put_declared};
 use crate::writer::page::AlgorithmText;
-use algorithms::algorithm::{Algorithm, Declaration, Extent, NamedConstant, Promises};
+use algorithms::algorithm::{
+    Algorithm, Declaration, Extent, NamedConstant, ProgressPromise, Promises,
+};
 use algorithms::expression::{Expression, Operator};
 use algorithms::fault::AlgorithmFault;
 use algorithms::first_values::{FirstValues, InitializedAlgorithm};
@@ -48,6 +54,18 @@ fn put_step_bound(
     }
 }
 
+/// Writes what is promised of calls under way, where that is something.
+fn put_progress(
+    page: &mut AlgorithmText,
+    progress: Option<ProgressPromise>,
+) -> Result<(), AllocError> {
+    match progress {
+        Some(ProgressPromise::DeadlockFreedom) => page.text.push_str(", deadlock freedom"),
+        Some(ProgressPromise::StarvationFreedom) => page.text.push_str(", starvation freedom"),
+        None => Ok(()),
+    }
+}
+
 /// Writes what is promised.
 fn put_promises(page: &mut AlgorithmText, promises: Promises) -> Result<(), AllocError> {
     page.text.push_str("promises exclusion")?;
@@ -60,6 +78,7 @@ fn put_promises(page: &mut AlgorithmText, promises: Promises) -> Result<(), Allo
     put_step_bound(page, "exit", promises.exit)?;
     put_step_bound(page, "recovery", promises.recovery)?;
     put_step_bound(page, "doorway", promises.doorway)?;
+    put_progress(page, promises.progress)?;
     page.end_line()
 }
 
@@ -146,29 +165,64 @@ fn put_shared(
     page.end_line()
 }
 
-/// Writes all declarations.
-fn put_declarations(
+/// Writes all constants, and the claims whose lines come before them.
+fn put_constants(
+    alloc: Global,
+    page: &mut AlgorithmText,
+    algorithm: &Algorithm,
+) -> Result<(), AllocError> {
+    for constant in &algorithm.constants {
+        put_due_claims(alloc, page, algorithm)?;
+        put_constant(page, constant)?;
+    }
+    Ok(())
+}
+
+/// Writes all shared words, and the claims whose lines come before them.
+fn put_shared_words(
+    alloc: Global,
     page: &mut AlgorithmText,
     initialized: &InitializedAlgorithm,
 ) -> Result<(), AllocError> {
     let algorithm = &initialized.algorithm;
-    for constant in &algorithm.constants {
-        put_constant(page, constant)?;
-    }
     let mut place: usize = 0;
     for declaration in &algorithm.declarations {
+        put_due_claims(alloc, page, algorithm)?;
         let start = start_at(&initialized.first_values, place);
         put_shared(page, declaration, start)?;
         place = place.saturating_add(1);
     }
-    put_private_names(page, algorithm)
+    Ok(())
 }
 
-/// Writes the names that last.
-fn put_private_names(page: &mut AlgorithmText, algorithm: &Algorithm) -> Result<(), AllocError> {
+/// Writes all declarations and claims. Where there is a claim, the shared words come first, which it may name.
+fn put_declarations(
+    alloc: Global,
+    page: &mut AlgorithmText,
+    initialized: &InitializedAlgorithm,
+) -> Result<(), AllocError> {
+    let algorithm = &initialized.algorithm;
+    if algorithm.claims.is_empty() {
+        put_constants(alloc, page, algorithm)?;
+        put_shared_words(alloc, page, initialized)?;
+    } else {
+        put_shared_words(alloc, page, initialized)?;
+        put_constants(alloc, page, algorithm)?;
+    }
+    put_private_names(alloc, page, algorithm)?;
+    put_other_claims(alloc, page, algorithm)
+}
+
+/// Writes the names that last, and the claims whose lines come before them.
+fn put_private_names(
+    alloc: Global,
+    page: &mut AlgorithmText,
+    algorithm: &Algorithm,
+) -> Result<(), AllocError> {
     let mut place = 0;
     for name in &algorithm.names {
         if place < algorithm.lasting {
+            put_due_claims(alloc, page, algorithm)?;
             page.text.push_str("private ")?;
             page.text.push_str(name.as_str())?;
             page.end_line()?;
@@ -195,9 +249,10 @@ fn draft_text(
     algorithm: &InitializedAlgorithm,
     prefers_else: bool,
 ) -> Result<String, AllocError> {
-    let mut page = AlgorithmText::new(alloc, prefers_else);
+    let labels = label_places(alloc, &algorithm.algorithm)?;
+    let mut page = AlgorithmText::new(alloc, labels, prefers_else);
     put_head(&mut page, &algorithm.algorithm)?;
-    put_declarations(&mut page, algorithm)?;
+    put_declarations(alloc, &mut page, algorithm)?;
     put_calls(&mut page, &algorithm.algorithm)?;
     Ok(page.text)
 }

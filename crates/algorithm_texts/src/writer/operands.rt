@@ -153,18 +153,45 @@ fn put_pair(text: &mut String, names: &[String], pair: &Pair) -> Result<(), Allo
     text.push_str(")")
 }
 
-/// Writes a condition, in brackets where its last operator binds less strongly than this.
+/// Whether a comparison is that one of these names is 1 which says so of itself.
+fn is_so(tests: &[bool], comparison: Comparison, first: &Expression, second: &Expression) -> bool {
+    match (first, second) {
+        (Expression::Private(name), Expression::Number(1)) => {
+            comparison == Comparison::Equal && tests.get(*name).copied() == Some(true)
+        }
+        _ => false,
+    }
+}
+
+/// Writes a comparison of two values.
+fn put_comparison(
+    text: &mut String,
+    names: &[String],
+    comparison: Comparison,
+    first: &Expression,
+    second: &Expression,
+) -> Result<(), AllocError> {
+    put_value(text, names, first, 3)?;
+    text.push_str(comparison_text(comparison))?;
+    put_value(text, names, second, 4)
+}
+
+/// Writes a condition, in brackets where its last operator binds less strongly than this. `tests`: which names say of themselves that
+/// they are 1.
 pub fn put_condition(
     text: &mut String,
     names: &[String],
+    tests: &[bool],
     condition: &Condition,
     least: u64,
 ) -> Result<(), AllocError> {
     match condition {
         Condition::Compare(comparison, first, second) => {
-            put_value(text, names, first, 3)?;
-            text.push_str(comparison_text(*comparison))?;
-            put_value(text, names, second, 4)
+            if is_so(tests, *comparison, first, second) {
+                put_value(text, names, first, 3)
+            } else {
+                put_comparison(text, names, *comparison, first, second)
+            }
         }
         Condition::ComparePairs(comparison, first, second) => {
             put_pair(text, names, first)?;
@@ -173,21 +200,21 @@ pub fn put_condition(
         }
         Condition::And(first, second) => {
             text.push_str(if least > 2 { "(" } else { "" })?;
-            put_condition(text, names, first, 2)?;
+            put_condition(text, names, tests, first, 2)?;
             text.push_str(" and ")?;
-            put_condition(text, names, second, 3)?;
+            put_condition(text, names, tests, second, 3)?;
             text.push_str(if least > 2 { ")" } else { "" })
         }
         Condition::Or(first, second) => {
             text.push_str(if least > 1 { "(" } else { "" })?;
-            put_condition(text, names, first, 1)?;
+            put_condition(text, names, tests, first, 1)?;
             text.push_str(" or ")?;
-            put_condition(text, names, second, 2)?;
+            put_condition(text, names, tests, second, 2)?;
             text.push_str(if least > 1 { ")" } else { "" })
         }
         Condition::Not(condition) => {
             text.push_str("not (")?;
-            put_condition(text, names, condition, 1)?;
+            put_condition(text, names, tests, condition, 1)?;
             text.push_str(")")
         }
     }

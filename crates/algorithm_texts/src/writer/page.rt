@@ -37,18 +37,24 @@ pub struct AlgorithmText {
     open: Vec<OpenBlock>,
     /// The places of the ways past an `else`.
     ways: Vec<usize>,
+    /// The places of the labels that claims name.
+    pub labels: Vec<usize>,
+    /// How many claims are written.
+    pub claims: usize,
     /// Whether a goto at the end of an `if` is the way past an `else` wherever it may be.
     prefers_else: bool,
 }
 
 impl AlgorithmText {
-    /// An empty text.
-    pub fn new(alloc: Global, prefers_else: bool) -> AlgorithmText {
+    /// An empty text, of an algorithm whose claims name the labels at these places.
+    pub fn new(alloc: Global, labels: Vec<usize>, prefers_else: bool) -> AlgorithmText {
         AlgorithmText {
             text: String::new(alloc),
             count: 0,
             open: Vec::new(alloc),
             ways: Vec::new(alloc),
+            labels,
+            claims: 0,
             prefers_else,
         }
     }
@@ -59,8 +65,13 @@ impl AlgorithmText {
         self.text.push_str("\n")
     }
 
+    /// The number of the next line.
+    pub fn next_number(&self) -> u64 {
+        self.count.saturating_add(1)
+    }
+
     /// Writes empty lines, so that the next line has this number at least.
-    fn fill(&mut self, number: u64) -> Result<(), AllocError> {
+    pub fn fill(&mut self, number: u64) -> Result<(), AllocError> {
         for _ in self.count.saturating_add(1)..number.min(MOST_LINES) {
             self.end_line()?;
         }
@@ -96,8 +107,11 @@ impl AlgorithmText {
         Ok(())
     }
 
-    /// Whether a goto of the text leads to a place.
+    /// Whether a goto of the text leads to a place, or a claim names the label there.
     fn has_label(&self, algorithm: &Algorithm, place: usize) -> bool {
+        if self.labels.contains(&place) {
+            return true;
+        }
         let mut at: usize = 0;
         for line in &algorithm.lines {
             if let LineKind::Local(LocalLine::Goto(target)) = &line.form {

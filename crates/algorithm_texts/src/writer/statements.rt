@@ -42,7 +42,7 @@ pub fn put_test(
     condition: &Condition,
 ) -> Result<(), AllocError> {
     text.push_str(words)?;
-    put_condition(text, algorithm.names.as_slice(), condition, 1)
+    put_condition(text, algorithm.names.as_slice(), &[], condition, 1)
 }
 
 /// Writes a condition after these words, where there is one.
@@ -58,15 +58,25 @@ fn put_test_if(
     }
 }
 
-/// Writes a shared word with its index.
-fn put_word(text: &mut String, algorithm: &Algorithm, word: &WordOf) -> Result<(), AllocError> {
+/// Writes a shared word with its index, by these names.
+pub fn put_word_of(
+    text: &mut String,
+    algorithm: &Algorithm,
+    names: &[String],
+    word: &WordOf,
+) -> Result<(), AllocError> {
     if let Some(declaration) = algorithm.declarations.get(word.declaration) {
         text.push_str(declaration.name.as_str())?;
     }
     match &word.index {
-        Some(index) => put_indexes(text, algorithm.names.as_slice(), index),
+        Some(index) => put_indexes(text, names, index),
         None => Ok(()),
     }
+}
+
+/// Writes a shared word of a line with its index.
+fn put_word(text: &mut String, algorithm: &Algorithm, word: &WordOf) -> Result<(), AllocError> {
+    put_word_of(text, algorithm, algorithm.names.as_slice(), word)
 }
 
 /// Writes that a private name is set, and what stands before the value.

@@ -13,5 +13,6 @@ returns-clause-ok c = record {
   none_last = refl;
   no_answers = c.new-4.ensures.items;
   no_lines = c.new-5.ensures.items;
+  no_claims = c.new-6.ensures.items;
   no_entries = refl;
 }

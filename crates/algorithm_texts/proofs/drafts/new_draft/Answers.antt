@@ -3,7 +3,7 @@ use Rattle.std.specs.Option.{option_map}
 use Rattle.algorithms.specs.declared.algorithm.NamedConstant.{NamedConstant}
 use Rattle.algorithms.specs.declared.algorithm.Declaration.{Declaration}
 use Rattle.algorithm_texts.specs.Parts.{term_of}
-use Rattle.algorithm_texts.specs.Drafts.{line_of, extent_of, start_term}
+use Rattle.algorithm_texts.specs.Drafts.{claim_form, line_of, extent_of, start_term}
 use Rattle.algorithm_texts.proofs.drafts.new_draft.Goals as goal
 
 pub returns : goal.returns
@@ -20,7 +20,7 @@ returns c = λ h e i. record {
   };
   declared = ap (map (λ (d : Declaration). string_bytes d.name)) e.no_declarations i;
   extents = ap (map (λ (d : Declaration). extent_of d.extent)) e.no_declarations i;
-  starts = ap (map start_term) c.new-6.ensures.items i;
+  starts = ap (map start_term) c.new-7.ensures.items i;
   says_values = false;
   lasting = e.none_last i;
   number = c.args.number;
@@ -32,4 +32,6 @@ returns c = λ h e i. record {
   labels = c.new-3.ensures.items i;
   jumps = c.new-4.ensures.items i;
   calls = ap reverse c.new-5.ensures.items i;
+  claims = ap (map claim_form) e.no_claims i;
+  claim_labels = c.new-6.ensures.items i;
 }

@@ -1,7 +1,7 @@
 use Rattle.std.proofs.Common.{◌≡◌, ◌+◌, true, false, length, sym, ap, ◌∙◌, subst, inl, inr, arith}
 use Rattle.std.proofs.lemmas.List.{with_items_is}
 use Rattle.std.specs.Vec.{with_items}
-use Rattle.algorithm_texts.specs.declared.flow.RunKind.TheVariants.{Silent}
+use Rattle.algorithm_texts.specs.declared.flow.RunKind.TheVariants.{Forward}
 use Rattle.algorithm_texts.specs.Drafts.{draft_view}
 use Rattle.algorithm_texts.specs.FinishedDrafts.{is_in}
 use Rattle.algorithm_texts.specs.Runs.{leads_to, ways_from}
@@ -17,7 +17,7 @@ returns-clause-yes c = λ back.
     let before = c.as_mut_slice-2.ensures.value ∙ one in
     let now = c.as_slice.ensures.value ∙ with_items_is (with_items c.in_ok-marks.marks led) c.spread.new.marks (c.spread.ensures.size ∙ c.as_mut_slice-2.ensures.len) in
     led_back d c.args.call c.args.place
-    (comes_other d c.args.call Silent (λ first. is_in c.as_mut_slice-2.result.now first ≡ true) (λ first. leads_to (ways_from d c.args.call Silent c.args.place) first ≡ true)
+    (comes_other d c.args.call Forward (λ first. is_in c.as_mut_slice-2.result.now first ≡ true) (λ first. leads_to (ways_from d c.args.call Forward c.args.place) first ≡ true)
     (λ first g. elim (c.follow.ensures.comes first (subst (λ ms. is_in ms first ≡ true) before g)) [
       | inl old ↦ absurd (none_in (length d.lines + 1) first (subst (λ ms. is_in ms first ≡ true) (c.as_mut_slice.ensures.value ∙ c.in_ok-marks.ensures) old))
       | inr leads ↦ leads
@@ -38,6 +38,6 @@ returns-clause-no c = λ back.
     let line = b.1 in
     c.is_in.ensures
     ∙ subst (λ ms. is_in ms c.args.place ≡ true) (sym now)
-    (comes_marked d c.args.call Silent (λ first. leads_to (ways_from d c.args.call Silent c.args.place) first ≡ true) marks size c.spread.ensures.closed
+    (comes_marked d c.args.call Forward (λ first. leads_to (ways_from d c.args.call Forward c.args.place) first ≡ true) marks size c.spread.ensures.closed
     (λ first within leads. c.spread.ensures.kept first (subst (λ ms. is_in ms first ≡ true) (sym before) (c.follow.ensures.marked first leads (omega (arith, within, long)))))
     c.args.place (omega (arith, line)) b.0)

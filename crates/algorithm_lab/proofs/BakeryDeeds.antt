@@ -26,7 +26,7 @@ use Rattle.algorithm_lab.specs.declared.run_report.TextReport.TheVariants.{Did}
 use Rattle.algorithm_lab.proofs.BakeryPlaces.{noted_by}
 
 abbrev pub promised : Promises
-promised = record { reentry = true; order = true; exit = None; recovery = None; doorway = None }
+promised = record { reentry = true; order = true; exit = None; recovery = None; doorway = None; progress = None }
 
 -- no deed, or one of a step of p
 abbrev pub OfStep : ℕ → Option Outer → Type 0

@@ -1,7 +1,7 @@
 -- The lines of the Bakery, and what one of them does to a process between two accesses.
-use Rattle.std.proofs.Common.{◌≡◌, ℕ, zero, suc, ◌+◌, List, [], ◌∷◌, map, length, Option, Some, None, Ok, refl, sym, ap, ◌∙◌}
+use Rattle.std.proofs.Common.{◌≡◌, ℕ, zero, suc, ◌+◌, ◌-◌, Bool, true, false, if◌then◌else◌, List, [], ◌∷◌, map, length, Option, Some, None, Result, Ok, refl, sym, ap, ◌∙◌, arith}
 use Rattle.std.specs.Prelude.{slice_get, ok_or}
-use Rattle.algorithms.specs.Arrivals.{GoesOn, arrives, arrives_after, local_step_of, ◌>>=◌}
+use Rattle.algorithms.specs.Arrivals.{GoesOn, GoesBack, Arrival, RoundOutcome, Repeats, is_way_back, step_to, local_step_of, outcome_after, round_outcome, after_round, further_rounds, most_local_rounds, ◌>>=◌}
 use Rattle.algorithms.specs.LocalRuns.{local_line_done}
 use Rattle.algorithms.specs.Worlds.{access_at, access_line}
 use Rattle.algorithm_lab.specs.Bakery.{IsBakery, form_of, bound_of, extent_of, lines}
@@ -16,7 +16,9 @@ use Rattle.algorithms.specs.declared.line.LineKind.TheVariants.{Access, Local, D
 use Rattle.algorithms.specs.declared.line.AlgorithmLine.{AlgorithmLine}
 use Rattle.algorithms.specs.declared.line.LocalLine.{LocalLine}
 use Rattle.algorithms.specs.declared.local.LocalState.{LocalState}
+use Rattle.algorithms.specs.declared.refusal.AlgorithmRefusal.{AlgorithmRefusal}
 use Rattle.algorithms.specs.declared.refusal.AlgorithmRefusal.TheVariants.{OutOfRange, Malformed}
+use Rattle.algorithms.proofs.LocalRounds.{one_further}
 
 -- the line at a place has this form
 pub record HasForm (all : List AlgorithmLine) (at : ℕ) (f : LineKind) : Type 0 where
@@ -74,19 +76,45 @@ pub access_there : (a : Algorithm) (at : ℕ) (line : AccessLine) → HasForm a.
 access_there a at line h =
     ap (λ o. ok_or o (Malformed at) >>= (λ l. access_line at l.form)) h.there ∙ ap (λ f. access_line at f) h.form
 
--- one line of a run
-formed : (all : List AlgorithmLine) (c : Constants) (n : ℕ) (s : LocalState) (f : LineKind) → HasForm all s.at f → arrives all c (suc n) s ≡ (local_step_of c f s >>= arrives_after (arrives all c n) s)
-formed all c n s f h =
-    ap (λ o. (ok_or o (Malformed s.at) >>= (λ l. local_step_of c l.form s)) >>= arrives_after (arrives all c n) s) h.there
-    ∙ ap (λ g. local_step_of c g s >>= arrives_after (arrives all c n) s) h.form
+-- where a process comes to from here by at most n lines of this round
+abbrev pub comes_to : List AlgorithmLine → Constants → ℕ → LocalState → Result Arrival AlgorithmRefusal
+comes_to all c n s = round_outcome all c n s >>= after_round (further_rounds all c most_local_rounds)
 
-pub goes : (all : List AlgorithmLine) (c : Constants) (n : ℕ) (s t : LocalState) (line : LocalLine) → HasForm all s.at (Local line) → local_line_done c (s.at + 1) line s ≡ Some t → arrives all c (suc n) s ≡ arrives all c n t
-goes all c n s t line h done =
-    formed all c n s (Local line) h
-    ∙ ap (λ o. (ok_or o (OutOfRange s.at) >>= (λ next. Ok (GoesOn next))) >>= arrives_after (arrives all c n) s) done
+-- one line of a round
+formed : (all : List AlgorithmLine) (c : Constants) (n : ℕ) (s : LocalState) (f : LineKind) (after : RoundOutcome → Result Arrival AlgorithmRefusal) → HasForm all s.at f
+    → (round_outcome all c (suc n) s >>= after) ≡ ((local_step_of c f s >>= outcome_after (round_outcome all c n) s) >>= after)
+formed all c n s f after h =
+    ap (λ o. ((ok_or o (Malformed s.at) >>= (λ l. local_step_of c l.form s)) >>= outcome_after (round_outcome all c n) s) >>= after) h.there
+    ∙ ap (λ g. (local_step_of c g s >>= outcome_after (round_outcome all c n) s) >>= after) h.form
 
-pub stops : (all : List AlgorithmLine) (c : Constants) (n : ℕ) (s : LocalState) (line : AccessLine) → HasForm all s.at (Access line) → arrives all c (suc n) s ≡ Ok (record { answer = None; state = s })
-stops all c n s line h = formed all c n s (Access line) h
+leads : (all : List AlgorithmLine) (c : Constants) (n : ℕ) (s t : LocalState) (line : LocalLine) (back : Bool) (after : RoundOutcome → Result Arrival AlgorithmRefusal)
+    → HasForm all s.at (Local line) → is_way_back line t.at ≡ back → local_line_done c (s.at + 1) line s ≡ Some t
+    → (round_outcome all c (suc n) s >>= after) ≡ (outcome_after (round_outcome all c n) s (if back then GoesBack t else GoesOn t) >>= after)
+leads all c n s t line back after h way done =
+    formed all c n s (Local line) after h
+    ∙ ap (λ o. ((ok_or o (OutOfRange s.at) >>= (λ next. Ok (step_to line next))) >>= outcome_after (round_outcome all c n) s) >>= after) done
+    ∙ ap (λ b. outcome_after (round_outcome all c n) s (if b then GoesBack t else GoesOn t) >>= after) way
 
-pub ends : (all : List AlgorithmLine) (c : Constants) (n : ℕ) (s : LocalState) (answer : ℕ) → HasForm all s.at (Done answer) → arrives all c (suc n) s ≡ Ok (record { answer = Some answer; state = s })
-ends all c n s answer h = formed all c n s (Done answer) h
+pub goes : (all : List AlgorithmLine) (c : Constants) (n : ℕ) (s t : LocalState) (line : LocalLine) → HasForm all s.at (Local line) → is_way_back line t.at ≡ false → local_line_done c (s.at + 1) line s ≡ Some t
+    → comes_to all c (suc n) s ≡ comes_to all c n t
+goes all c n s t line h way done = leads all c n s t line false (after_round (further_rounds all c most_local_rounds)) h way done
+
+-- it is before an access, with this many rounds left
+stops_with : (all : List AlgorithmLine) (c : Constants) (n rounds : ℕ) (s : LocalState) (line : AccessLine) → HasForm all s.at (Access line)
+    → (round_outcome all c (suc n) s >>= after_round (further_rounds all c rounds)) ≡ Ok (record { answer = None; state = s })
+stops_with all c n rounds s line h = formed all c n s (Access line) (after_round (further_rounds all c rounds)) h
+
+pub stops : (all : List AlgorithmLine) (c : Constants) (n : ℕ) (s : LocalState) (line : AccessLine) → HasForm all s.at (Access line) → comes_to all c (suc n) s ≡ Ok (record { answer = None; state = s })
+stops all c n s line h = stops_with all c n most_local_rounds s line h
+
+-- the next round of a loop begins with an access
+pub goes_back : (all : List AlgorithmLine) (c : Constants) (n m : ℕ) (s t : LocalState) (line : LocalLine) (access : AccessLine) → length all ≡ suc m → HasForm all s.at (Local line) → is_way_back line t.at ≡ true
+    → local_line_done c (s.at + 1) line s ≡ Some t → HasForm all t.at (Access access) → comes_to all c (suc n) s ≡ Ok (record { answer = None; state = t })
+goes_back all c n m s t line access size h way done there =
+    leads all c n s t line true (after_round (further_rounds all c most_local_rounds)) h way done
+    ∙ one_further all c most_local_rounds s.at t (omega arith)
+    ∙ ap (λ (k : ℕ). round_outcome all c k t >>= after_round (further_rounds all c (most_local_rounds - 1))) size
+    ∙ stops_with all c m (most_local_rounds - 1) t access there
+
+pub ends : (all : List AlgorithmLine) (c : Constants) (n : ℕ) (s : LocalState) (answer : ℕ) → HasForm all s.at (Done answer) → comes_to all c (suc n) s ≡ Ok (record { answer = Some answer; state = s })
+ends all c n s answer h = formed all c n s (Done answer) (after_round (further_rounds all c most_local_rounds)) h

@@ -20,9 +20,9 @@ use Rattle.algorithm_lab.specs.Replays.{run_unless, run_of, ReplaysAlgorithm}
 use Rattle.algorithm_lab.specs.Reports.{verdict_of}
 use Rattle.algorithm_lab.specs.Sections.{bounds_steps}
 use Rattle.algorithm_lab.proofs.NoExcess.{plain_verdict, run_plain}
-use Rattle.algorithm_lab.specs.Runs.{AlgorithmRun, deeds_of, call_of, event_reports, monitor_transitions, run_on, said_by, start_by, start_part}
+use Rattle.algorithm_lab.specs.Runs.{AlgorithmRun, deeds_of, call_of, event_reports, line_on, monitor_transitions, run_on, said_by, start_by, start_part}
 use Rattle.algorithm_lab.specs.declared.run_report.TextReport.{TextReport}
-use Rattle.algorithm_lab.proofs.Runs.{crash_appended, deeds_append, so_of_run, step_appended}
+use Rattle.algorithm_lab.proofs.Runs.{crash_appended, deeds_append, so_of_line, so_of_run, step_appended}
 use Rattle.algorithm_lab.specs.declared.monitor_event.MonitorStep.{MonitorStep}
 use Rattle.algorithm_lab.specs.declared.replay_fault.AlgorithmReplayFault.{AlgorithmReplayFault}
 use Rattle.algorithm_lab.specs.declared.run_refusal.RunRefusal.{RunRefusal}
@@ -69,6 +69,9 @@ module _ (a : Algorithm) (b : IsBakery a) (n limit : ℕ) (most : n ≤ 64) (hig
   crash_fits m p taken lock h =
       part_fits m (left_by m (crash_on m p)) (event_reports (Fell p (monitor_transitions.crash m p))) (crash_on m p) lock (crash_appended m p taken) (crash_led a b n limit most high lock m p h)
 
+  pub line_fits : (m : MonitorState) (line : Line) → Fits m (line_on m line).reports (line_on m line).left
+  line_fits = so_of_line monitor_transitions event_reports Fits (λ m lock h. stays a b n limit most high lock m h) both_fit start_fits step_fits crash_fits
+
   run_fits : (k : ℕ) (m : MonitorState) (all : List Line) → Fits m (run_on k m all).reports (run_on k m all).left
   run_fits = so_of_run monitor_transitions event_reports Fits (λ m lock h. stays a b n limit most high lock m h) both_fit start_fits step_fits crash_fits
 
@@ -81,7 +84,7 @@ module _ (a : Algorithm) (b : IsBakery a) (n limit : ℕ) (most : n ≤ 64) (hig
   new_is_fine all =
       let led = run_fits 2 (first_monitor (from_zeros a) n limit) all nobody (first_beside a b n limit most high) in
       let reports = (run_on 2 (first_monitor (from_zeros a) n limit) all).reports in
-      let plain = plain_verdict n reports (run_plain 2 (first_monitor (from_zeros a) n limit) all (ap bounds_steps b.promises)) in
+      let plain = plain_verdict n reports (run_plain 2 (first_monitor (from_zeros a) n limit) all (ap bounds_steps b.promises, b.claims)) in
       record { verdict = plain ∙ legal_is_fine 1 (judge_at n nobody) (judge_at n led.lock) _ led.judged; procs = ap (λ (m : MonitorState). m.world.procs) led.beside.is }
 
 -- the verdict of a replay, and the processes of its world

@@ -8,7 +8,7 @@ use Rattle.rmecore.specs.declared.phase.Phase.{Phase}
 use Rattle.rmecore.specs.declared.phase.Phase.TheVariants as phases
 use Rattle.rmecore.specs.declared.refusal.Refusal.{Refusal}
 use Rattle.rmecore.specs.declared.refusal.Refusal.TheVariants as refusals
-use Rattle.algorithms.specs.Arrivals.{arrives, ◌>>=◌}
+use Rattle.algorithms.specs.Arrivals.{after_round, further_rounds, most_local_rounds, round_outcome, ◌>>=◌}
 use Rattle.algorithm_lab.specs.Bakery.{IsBakery}
 use Rattle.algorithms.specs.LocalRuns.{nothing_noted}
 use Rattle.algorithm_lab.specs.Monitors.{is_idle, phase_refusal}
@@ -96,7 +96,7 @@ module _ (a : Algorithm) (b : IsBakery a) (n limit p : ℕ) where
 
   begins_at : (at : ℕ) (line : AccessLine) → HasForm a.lines.items at (forms.Access line) → begun_from a me at no_names ≡ Ok (before at no_names)
   begins_at at line h =
-      ap (λ k. arrives a.lines.items me k (local at no_names nothing_noted) >>= (λ l. begun_at l.state l.answer)) (sixty a b)
+      ap (λ k. (round_outcome a.lines.items me k (local at no_names nothing_noted) >>= after_round (further_rounds a.lines.items me most_local_rounds)) >>= (λ l. begun_at l.state l.answer)) (sixty a b)
       ∙ ap (λ r. r >>= (λ l. begun_at l.state l.answer)) (stops a.lines.items me 59 (local at no_names nothing_noted) line h)
 
   -- the process is before an access at which a withdraw may begin, or may not

@@ -20,7 +20,7 @@ use Rattle.rmecore.proofs.Bounds.{Within}
 use Rattle.rmecore.proofs.Invariant.{eqb_self}
 use Rattle.rmecore.proofs.Scans.{without-first, has-first}
 use Rattle.algorithms.specs.Accesses.{access_of, access_after_read, index_of, is_swap, bound_of, value_stored, names_after_read, passes}
-use Rattle.algorithms.specs.Arrivals.{Arrival, arrives, ◌>>=◌}
+use Rattle.algorithms.specs.Arrivals.{Arrival, after_round, further_rounds, most_local_rounds, round_outcome, ◌>>=◌}
 use Rattle.algorithm_lab.specs.Bakery.{IsBakery, may_pass}
 use Rattle.algorithms.specs.LocalRuns.{nothing_noted}
 use Rattle.algorithm_lab.specs.Moves.{answer_number}
@@ -171,7 +171,7 @@ module _ (a : Algorithm) (b : IsBakery a) (n limit p : ℕ) (own : p < n) (most 
 
   went_on : (at : ℕ) (store : List ℕ) (l : Arrival) → From a b me 60 (local at store nothing_noted) ≡ Ok l → goes_on a me at store ≡ Ok (move_of_arrival 0 l)
   went_on at store l e =
-      ap (λ k. arrives a.lines.items me k (local at store nothing_noted) >>= (λ l. Ok (move_of_arrival a.lasting l))) (sixty a b)
+      ap (λ k. (round_outcome a.lines.items me k (local at store nothing_noted) >>= after_round (further_rounds a.lines.items me most_local_rounds)) >>= (λ l. Ok (move_of_arrival a.lasting l))) (sixty a b)
       ∙ ap (λ r. r >>= (λ l. Ok (move_of_arrival a.lasting l))) e
       ∙ ap (λ k. Ok (move_of_arrival k l)) b.lasting
 

@@ -30,8 +30,9 @@ use Rattle.rmecore.specs.declared.core_done.CoreDone.{CoreDone}
 use Rattle.judge.specs.Legal.{judged_all}
 use Rattle.algorithms.specs.Arrivals.{◌>>=◌}
 use Rattle.algorithm_lab.specs.Bakery.{IsBakery}
+use Rattle.algorithm_lab.specs.Claims.{or_line}
 use Rattle.algorithm_lab.specs.Heard.{Heard, deeds_heard, heard_of_crash}
-use Rattle.algorithm_lab.specs.Monitors.{MonitorState, EventPart, answer_reports, counted_steps, excess_of, first_monitor, first_steps, is_idle, is_idle_process, part_of, phase_of, place_in, with_excess, phase_refusal, part_of_start, start_on, step_on, crash_on, then_in, unless as unless_heard}
+use Rattle.algorithm_lab.specs.Monitors.{MonitorState, EventPart, answer_reports, broken_between, broken_reports, counted_steps, excess_of, first_monitor, first_steps, is_idle, is_idle_process, monitor_left, part_of, phase_of, place_in, with_excess, phase_refusal, part_of_start, start_on, step_on, crash_on, then_in, unless as unless_heard}
 use Rattle.algorithm_lab.specs.Refusals.{number_of as number_of_run}
 use Rattle.algorithm_lab.specs.Sections.{bounds_steps, excess, section_at}
 use Rattle.algorithm_lab.specs.declared.section.BoundedSection.{BoundedSection}
@@ -52,6 +53,7 @@ use Rattle.algorithms.specs.declared.refusal.AlgorithmRefusal.{AlgorithmRefusal}
 use Rattle.algorithms.specs.declared.refusal.AlgorithmRefusal.TheVariants.{NoSuchProcess, NothingToDo}
 use Rattle.algorithm_lab.specs.declared.run_refusal.RunRefusal.{RunRefusal}
 use Rattle.algorithm_lab.specs.declared.run_refusal.RunRefusal.TheVariants.{Refused}
+use Rattle.algorithm_lab.proofs.BrokenClaims.{none_broken}
 use Rattle.algorithm_lab.proofs.BakeryLines.{three}
 use Rattle.algorithm_lab.proofs.BakeryComparisons.{constants}
 use Rattle.algorithm_lab.proofs.BakeryPlaces.{dead, Stands}
@@ -125,6 +127,18 @@ module _ (a : Algorithm) (b : IsBakery a) (n limit : ℕ) (most : n ≤ 64) (hig
 
     gone : (p : ℕ) → n ≤ p → slice_get ts p ≡ None
     gone p past = slice_get_past ts p (omega (arith, h.long))
+
+    -- an event reports no claim, since there is none
+    no_claims : (p : ℕ) (ws : List (List ℕ)) (rs : List AlgorithmProcess) (phase : Phase) (steps : ℕ) → broken_between m (monitor_left m p (world ws rs) phase steps) ≡ None
+    no_claims p ws rs phase steps = (λ i. or_line (none_broken (world rows ts) ps b.claims i) (none_broken (world ws rs) (slice_set ps p phase) b.claims i))
+
+    -- what an event reports and leaves, but for claims
+    abbrev plain_part : ℕ → List (List ℕ) → List AlgorithmProcess → Heard → Option ℕ → EventPart
+    plain_part p ws rs x number = record { reports = x.reports ++ answer_reports p number; ended = is_some number; left = state ws rs (slice_set ps p x.phase) }
+
+    part_plain : (p : ℕ) (ws : List (List ℕ)) (rs : List AlgorithmProcess) (x : Heard) (number : Option ℕ) → part_of m p (world ws rs) x number 0 ≡ plain_part p ws rs x number
+    part_plain p ws rs x number =
+        ap (λ (line : Option ℕ). record { reports = broken_reports line ++ (x.reports ++ answer_reports p number); ended = is_some number; left = state ws rs (slice_set ps p x.phase) }) (no_claims p ws rs x.phase 0)
 
     -- ---- starts
 
@@ -205,8 +219,11 @@ module _ (a : Algorithm) (b : IsBakery a) (n limit : ℕ) (most : n ≤ 64) (hig
     abbrev crash_from : ℕ → Option AlgorithmProcess → Result EventPart RunRefusal
     crash_from p o = then_in (λ w. part_of m p w (heard_of_crash a.promises p (phase_now p)) None 0) (ok_or o NoSuchProcess >>= (λ process. Ok (with_process (world rows ts) p dead)))
 
-    crash_there : (p : ℕ) (t : AlgorithmProcess) → slice_get ts p ≡ Some t → crash_on m p ≡ Ok (part_of m p (with_process (world rows ts) p dead) (heard_of_crash promised p (phase_now p)) None 0)
-    crash_there p t there = ap (crash_from p) there ∙ ap (λ x. Ok (part_of m p (with_process (world rows ts) p dead) (heard_of_crash x p (phase_now p)) None 0)) b.promises
+    crash_there : (p : ℕ) (t : AlgorithmProcess) → slice_get ts p ≡ Some t → crash_on m p ≡ Ok (plain_part p rows (slice_set ts p dead) (heard_of_crash promised p (phase_now p)) None)
+    crash_there p t there =
+        ap (crash_from p) there
+        ∙ ap (λ x. Ok (part_of m p (with_process (world rows ts) p dead) (heard_of_crash x p (phase_now p)) None 0)) b.promises
+        ∙ ap Ok (part_plain p rows (slice_set ts p dead) (heard_of_crash promised p (phase_now p)) None)
 
     crash_gone : (p : ℕ) → n ≤ p → crash_on m p ≡ Err (Refused NoSuchProcess)
     crash_gone p past = ap (crash_from p) (gone p past)
@@ -324,6 +341,7 @@ module _ (a : Algorithm) (b : IsBakery a) (n limit : ℕ) (most : n ≤ 64) (hig
         step_is p
         ∙ ap (step_from p) there
         ∙ ap (step_done p) s.1
+        ∙ ap Ok (part_plain p (words_after_access rows taken.access.address taken.access.stores) (slice_set ts p taken.moved.process) (deeds_heard a.promises p (phase_now p) taken.moved.noted) taken.moved.answer)
         ∙ ap (λ y. Ok (reported p taken.moved.process y (deeds_heard a.promises p (phase_now p) taken.moved.noted) taken.moved.answer)) f.access
         ∙ ap (λ y. Ok (reported p taken.moved.process (access_by acc) y taken.moved.answer)) hear
         ∙ ap (λ y. Ok (reported p taken.moved.process (access_by acc) now y)) f.answer in

@@ -1,4 +1,5 @@
 pub mod Sections
+pub mod BrokenClaims
 pub mod Runs
 pub mod HeardDeeds
 pub mod Replays

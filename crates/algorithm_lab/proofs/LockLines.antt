@@ -26,9 +26,10 @@ use Rattle.rmecore.specs.declared.refusal.Refusal.TheVariants.{NoSuchProcess, No
 use Rattle.rmecore.proofs.Invariant.{put_same}
 use Rattle.redomail.specs.declared.deed.Deed.TheVariants.{Outer}
 use Rattle.schedule.proofs.Fragments.{preceded}
-use Rattle.schedule.specs.Fragments.{fragment_after_line}
+use Rattle.schedule.specs.Fragments.{crashes_in_a_row, fragment_after_line, unless as text_unless}
+use Rattle.schedule.specs.Transitions.{Fell}
 use Rattle.schedule.specs.Reports.{line_of_report as lock_line, reports_text as lock_text}
-use Rattle.schedule.specs.Runs.{Part as LockRun, LockReport, Did as LockDid, Answered as LockAnswered, did, answer_reports as lock_answered, reports_of, unless as lock_unless, steps as lock_steps, line_on as lock_line_on, run_on as lock_run_on}
+use Rattle.schedule.specs.Runs.{Part as LockRun, LockReport, Did as LockDid, Answered as LockAnswered, did, answer_reports as lock_answered, reports_by as lock_reports_by, reports_of, transitions_of, unless as lock_unless, steps as lock_steps, line_on as lock_line_on, run_on as lock_run_on}
 use Rattle.schedule.specs.declared.lines.line.Line.{Line}
 use Rattle.schedule.specs.declared.lines.line.Line.TheVariants as lines
 use Rattle.algorithms.specs.FirstWords.{from_zeros}
@@ -37,11 +38,11 @@ use Rattle.algorithms.specs.declared.algorithm.AlgorithmCall.{AlgorithmCall}
 use Rattle.algorithms.specs.declared.process.AlgorithmProcess.{AlgorithmProcess}
 use Rattle.algorithm_lab.specs.Bakery.{IsBakery, answers}
 use Rattle.algorithm_lab.specs.LockLines.{IsOfLock, answer_of, lock_reported, call_refusal, lock_world_after_start as lock_started, step_refusal, value_of, lock_step_report, lock_world_after_step, if_there, image_of, lock_behaviour, refusal_with_number, SameRun}
-use Rattle.algorithm_lab.specs.Monitors.{MonitorState, EventPart, answer_reports, first_monitor, part_of_start, start_on, step_on, crash_on}
+use Rattle.algorithm_lab.specs.Monitors.{MonitorState, EventPart, answer_reports, first_monitor, left_by, part_of_start, refusal_by, start_on, step_on, crash_on}
 use Rattle.algorithm_lab.specs.Moves.{MoveResult, Tells, Refuses, answer_number, deed_report, core_call, refused_outcome, unless, moved_by, SameWords}
 use Rattle.algorithm_lab.specs.Refusals.{number_of as number_of_run}
 use Rattle.algorithm_lab.specs.Reports.{words_of_text, words_of_answer, line_of_report, reports_text, words_text}
-use Rattle.algorithm_lab.specs.Runs.{AlgorithmRun, call_of, start_by, line_on, run_on}
+use Rattle.algorithm_lab.specs.Runs.{AlgorithmRun, call_of, event_reports, monitor_transitions, start_by, line_on, run_on}
 use Rattle.algorithm_lab.specs.declared.run_refusal.RunRefusal.{RunRefusal}
 use Rattle.algorithm_lab.specs.declared.run_report.TextReport.{TextReport}
 use Rattle.algorithm_lab.specs.declared.run_report.TextReport.TheVariants.{Did, Answered}
@@ -339,13 +340,48 @@ module _ (a : Algorithm) (b : IsBakery a) (n limit : ℕ) (most : n ≤ 64) (hig
       (crash_by_both w here h.lock p (nat_lt p n) (crash_on here p) (record { lock = h.lock; rows = h.rows; processes = h.processes; now = h.now; is = refl; alike = h.alike })
       (crash_matches a b n limit most high w h.lock h.rows h.processes h.now h.alike p))
 
+  crash_same : (p : ℕ) (w : World) (m : MonitorState) → IsBeside w m
+      → SameLine (line_on m (lines.Crash p)) (lock_unless (if_there n p None) w (LockDid (Outer (outers.Crash p)) ∷ []) (after n limit w (Crashes p)))
+  crash_same p w m h =
+      subst (λ run. SameLine run (lock_unless (if_there n p None) w (LockDid (Outer (outers.Crash p)) ∷ []) (after n limit w (Crashes p)))) (sym (line_of_crash m p)) (crash_line p w m h)
+
+  -- the crashes of processes in a row
+  abbrev SameCrashes : List TextReport × MonitorState → List LockReport × World → Type 0
+  SameCrashes text lock = SameLine (record { reports = text.0; left = text.1; refused = None }) (record { reports = lock.0; left = lock.1; refused = None })
+
+  -- a crash, and those after it unless it is refused
+  abbrev crashes_by : {X S R : Type 0} → Option R → List X → S → List X × S → List X × S
+  crashes_by o reports s rest = if is_some o then ([], s) else (reports ++ rest.0, rest.1)
+
+  crashes_both : (w out : World) (m left : MonitorState) (reports : List TextReport) (lock_reports : List LockReport) (rest : List TextReport × MonitorState) (lock_rest : List LockReport × World) (o : Option RunRefusal) (lock_o : Option Refusal)
+      → SameLine (text_unless o m reports left) (lock_unless lock_o w lock_reports out) → (IsBeside out left → SameCrashes rest lock_rest)
+      → SameCrashes (crashes_by o reports m rest) (crashes_by lock_o lock_reports w lock_rest)
+  crashes_both w out m left reports lock_reports rest lock_rest None None both more =
+      let later = more both.beside in
+      record { reports = reported_both a reports rest.0 lock_reports lock_rest.0 both.reports later.reports; refused = refl; beside = later.beside }
+  crashes_both w out m left reports lock_reports rest lock_rest (Some e) (Some refusal) both more = record { reports = none_reported a; refused = refl; beside = both.beside }
+  crashes_both w out m left reports lock_reports rest lock_rest None (Some refusal) both more = let same : None ≡ Some (number_of refusal) = both.refused in absurd (cc)
+  crashes_both w out m left reports lock_reports rest lock_rest (Some e) None both more = let same : Some (number_of_run e) ≡ None = both.refused in absurd (cc)
+
+  crashes_same : (p k : ℕ) (w : World) (m : MonitorState) → IsBeside w m
+      → SameCrashes (crashes_in_a_row monitor_transitions event_reports p k m) (crashes_in_a_row (transitions_of (lock_behaviour n limit)) lock_reports_by p k w)
+  unfolding crashes_in_a_row
+  crashes_same p zero w m h = record { reports = none_reported a; refused = refl; beside = h }
+  crashes_same p (suc k) w m h =
+      let out : World = after n limit w (Crashes p) in
+      let left : MonitorState = left_by m (crash_on m p) in
+      crashes_both w out m left (event_reports (Fell p (monitor_transitions.crash m p))) (LockDid (Outer (outers.Crash p)) ∷ [])
+      (crashes_in_a_row monitor_transitions event_reports (p + 1) k left) (crashes_in_a_row (transitions_of (lock_behaviour n limit)) lock_reports_by (p + 1) k out)
+      (refusal_by (crash_on m p)) (if_there n p None) (crash_same p w m h) (λ beside. crashes_same (p + 1) k out left beside)
+
   line_same : (w : World) (m : MonitorState) (line : Line) → IsOfLock line → IsBeside w m → SameLine (line_on m line) (lock_line_on (lock_behaviour n limit) w line)
   unfolding lock_line_on
   line_same w m (lines.Start p call) of h =
       subst (λ run. SameLine run (lock_line_on (lock_behaviour n limit) w (lines.Start p call))) (sym (line_of_start m p call)) (start_line p w m (call_of call) of h)
   line_same w m (lines.Step p zero) of h = absurd (omega (arith, of))
   line_same w m (lines.Step p (suc k)) of h = step_line p k w m h
-  line_same w m (lines.Crash p) of h = subst (λ run. SameLine run (lock_line_on (lock_behaviour n limit) w (lines.Crash p))) (sym (line_of_crash m p)) (crash_line p w m h)
+  line_same w m (lines.Crash p) of h = crash_same p w m h
+  line_same w m lines.CrashAll of h = crashes_same 0 64 w m h
 
   -- ---- runs
 

@@ -9,9 +9,9 @@ use Rattle.redomail.specs.declared.deed.Deed.TheVariants.{Outer}
 use Rattle.rmeworld.specs.declared.call.Call.{Call}
 use Rattle.schedule.proofs.Fragments.{preceded, report_of}
 use Rattle.schedule.specs.declared.lines.line.Line.{Line}
-use Rattle.schedule.specs.declared.lines.line.Line.TheVariants.{Start, Step, Crash}
+use Rattle.schedule.specs.declared.lines.line.Line.TheVariants.{Start, Step, Crash, CrashAll}
 use Rattle.schedule.specs.Effects.{Effects, HearsAll}
-use Rattle.schedule.specs.Fragments.{Fragment, fragment_after_line, unless, steps as steps_by, line_on as line_by, run_on as run_by}
+use Rattle.schedule.specs.Fragments.{Fragment, crashes_in_a_row, fragment_after_line, unless, steps as steps_by, line_on as line_by, run_on as run_by}
 use Rattle.schedule.specs.Plays.{PlaysAll, PlaysOn}
 use Rattle.schedule.specs.declared.player.play_stop.PlayStop.{PlayStop}
 use Rattle.schedule.specs.declared.player.play_stop.PlayStop.TheVariants.{Refused}
@@ -21,19 +21,20 @@ use Rattle.algorithms.specs.declared.access.Advanced.{Advanced}
 use Rattle.algorithms.specs.declared.refusal.AlgorithmRefusal.{AlgorithmRefusal}
 use Rattle.algorithm_lab.specs.Heard.{heard_of_crash}
 use Rattle.algorithm_lab.specs.Monitors.{IsRefusal, IsReportedPart, MonitorState, EventPart, crash_on, left_by, part_of, part_of_start, part_of_step, phase_of, refusal_by, reports_by, step_on, then_in}
-use Rattle.algorithm_lab.specs.Runs.{AlgorithmRun, AddsRun, call_of, deeds_of, event_reports, line_on, monitor_transitions, report_effects, said_by, start_by, start_part}
+use Rattle.algorithm_lab.specs.Runs.{AlgorithmRun, AddsRun, call_of, crash_said_by, deeds_of, event_reports, line_on, monitor_transitions, report_effects, said_by, start_by, start_part}
 use Rattle.algorithm_lab.specs.declared.monitor_event.MonitorCrash.{MonitorCrash}
 use Rattle.algorithm_lab.specs.declared.monitor_event.MonitorStep.{MonitorStep}
 use Rattle.algorithm_lab.specs.declared.run_refusal.RunRefusal.{RunRefusal}
 use Rattle.algorithm_lab.specs.declared.run_refusal.RunRefusal.TheVariants.{OutOfMemory}
 use Rattle.algorithm_lab.specs.declared.run_report.TextReport.{TextReport}
-use Rattle.algorithm_lab.specs.declared.run_report.TextReport.TheVariants.{Did, Answered, Exceeded}
+use Rattle.algorithm_lab.specs.declared.run_report.TextReport.TheVariants.{Did, Answered, Exceeded, Broken}
 
 pub deeds_append : (reports more : List TextReport) → deeds_of (reports ++ more) ≡ deeds_of reports ++ deeds_of more
 deeds_append [] more = refl
 deeds_append (Did outer ∷ reports) more = ap (λ ds. Outer outer ∷ ds) (deeds_append reports more)
 deeds_append (Answered p answer ∷ reports) more = deeds_append reports more
 deeds_append (Exceeded p section ∷ reports) more = deeds_append reports more
+deeds_append (Broken line ∷ reports) more = deeds_append reports more
 
 -- what a start, a step or a crash comes to, as a run
 abbrev pub part_run : MonitorState → Result EventPart RunRefusal → AlgorithmRun RunRefusal
@@ -62,7 +63,7 @@ crash_part m p r = then_in (λ w. part_of m p w (heard_of_crash m.world.algorith
 pub line_of_crash : (m : MonitorState) (p : ℕ) → line_on m (Crash p) ≡ part_run m (crash_on m p)
 line_of_crash m p = by (crash m.world p)
   where
-    by : (r : Result AlgorithmWorldState AlgorithmRefusal) → unless (refusal_by (crash_part m p r)) m (event_reports (Fell p (monitor_transitions.crash m p))) (left_by m (crash_part m p r)) ≡ part_run m (crash_part m p r)
+    by : (r : Result AlgorithmWorldState AlgorithmRefusal) → unless (refusal_by (crash_part m p r)) m (event_reports (Fell p (crash_said_by m p r))) (left_by m (crash_part m p r)) ≡ part_run m (crash_part m p r)
     by (Ok w) = refl
     by (Err e) = refl
 
@@ -112,7 +113,7 @@ step_appended m left p step before now taken wrote = by (advance m.world p) take
 pub crash_appended : (m : MonitorState) (p : ℕ) → refusal_by (crash_on m p) ≡ None → IsReportedPart (crash_on m p) [] (event_reports (Fell p (monitor_transitions.crash m p))) (left_by m (crash_on m p))
 crash_appended m p = by (crash m.world p)
   where
-    by : (r : Result AlgorithmWorldState AlgorithmRefusal) → refusal_by (crash_part m p r) ≡ None → IsReportedPart (crash_part m p r) [] (event_reports (Fell p (monitor_transitions.crash m p))) (left_by m (crash_part m p r))
+    by : (r : Result AlgorithmWorldState AlgorithmRefusal) → refusal_by (crash_part m p r) ≡ None → IsReportedPart (crash_part m p r) [] (event_reports (Fell p (crash_said_by m p r))) (left_by m (crash_part m p r))
     by (Ok w) none = (refl, refl)
     by (Err e) none = absurd (cc)
 
@@ -137,6 +138,21 @@ module _ {S T C R X : Type 0} (m : Transitions S T C R) (report : RunEvent T C �
       by None is false later = both s _ _ _ _ (takes s p is) later
       by (Some e) is ends later = none s
 
+  so_of_crashes : (p n : ℕ) (s : S) → P s (crashes_in_a_row m report p n s).0 (crashes_in_a_row m report p n s).1
+  unfolding crashes_in_a_row
+  so_of_crashes p zero s = none s
+  so_of_crashes p (suc n) s = by (m.crash_refusal s p) refl (so_of_crashes (p + 1) n (m.crashed s p))
+    where
+      rest : List X × S
+      rest = crashes_in_a_row m report (p + 1) n (m.crashed s p)
+
+      all : Option R → List X × S
+      all o = if is_some o then ([], s) else (report (Fell p (m.crash s p)) ++ rest.0, rest.1)
+
+      by : (o : Option R) → m.crash_refusal s p ≡ o → P (m.crashed s p) rest.0 rest.1 → P s (all o).0 (all o).1
+      by None is later = both s _ _ _ _ (falls s p is) later
+      by (Some e) is later = none s
+
   pub so_of_line : (s : S) (line : Line) → P s (line_by m report s line).reports (line_by m report s line).left
   so_of_line s (Start p call) = by (m.start_refusal s p call)
     where
@@ -152,6 +168,7 @@ module _ {S T C R X : Type 0} (m : Transitions S T C R) (report : RunEvent T C �
       by : (o : Option R) → m.crash_refusal s p ≡ o → P s (part o).reports (part o).left
       by None is = falls s p is
       by (Some e) is = none s
+  so_of_line s CrashAll = so_of_crashes 0 64 s
 
   pub so_of_run : (k : ℕ) (s : S) (lines : List Line) → P s (run_by m report k s lines).reports (run_by m report k s lines).left
   so_of_run k s [] = none s

@@ -1,5 +1,6 @@
 pub mod Refusals
 pub mod Sections
+pub mod Claims
 pub mod Heard
 pub mod Monitors
 pub mod Runs

@@ -34,13 +34,14 @@ use Rattle.algorithm_lab.specs.Reports.{reports_text, words_text}
 use Rattle.algorithm_lab.specs.Runs.{AlgorithmRun, call_of}
 use Rattle.algorithm_lab.specs.declared.run_refusal.RunRefusal.{RunRefusal}
 use Rattle.algorithm_lab.specs.declared.run_report.TextReport.{TextReport}
-use Rattle.algorithm_lab.specs.declared.run_report.TextReport.TheVariants.{Did, Answered, Exceeded}
+use Rattle.algorithm_lab.specs.declared.run_report.TextReport.TheVariants.{Did, Answered, Exceeded, Broken}
 
--- a line of the lock alone: a start of one of its calls, one step or more, or a crash
+-- a line of the lock alone: a start of one of its calls, one step or more, a crash, or a crash of all
 abbrev pub IsOfLock : Line → Type 0
 IsOfLock (lines.Start p call) = IsSome (call_of call)
 IsOfLock (lines.Step p steps) = 1 ≤ steps
 IsOfLock (lines.Crash p) = Unit {0}
+IsOfLock lines.CrashAll = Unit {0}
 
 -- ---- answers
 
@@ -68,11 +69,12 @@ dones =
     ∷ Withdrawn
     ∷ []
 
--- what the lock reports where the text reports this. The text bounds no own steps, so that it reports no excess
+-- what the lock reports where the text reports this. The text bounds no own steps and claims nothing, so that it reports no breach
 abbrev pub lock_reported : TextReport → LockReport
 lock_reported (Did outer) = LockDid (Outer outer)
 lock_reported (Answered p number) = LockAnswered p (answer_of (slice_index_or dones number Withdrawn))
 lock_reported (Exceeded p section) = LockAnswered p (answer_of Withdrawn)
+lock_reported (Broken line) = LockAnswered line (answer_of Withdrawn)
 
 -- ---- the lock as a machine that plays schedules
 

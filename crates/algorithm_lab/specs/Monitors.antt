@@ -13,12 +13,13 @@ use Rattle.algorithms.specs.declared.process.AlgorithmPlace.{AlgorithmPlace}
 use Rattle.algorithms.specs.declared.process.AlgorithmPlace.TheVariants.{Rest, Dead, At}
 use Rattle.algorithms.specs.declared.process.AlgorithmProcess.{AlgorithmProcess}
 use Rattle.algorithms.specs.declared.refusal.AlgorithmRefusal.{AlgorithmRefusal}
+use Rattle.algorithm_lab.specs.Claims.{claim_broken, or_line}
 use Rattle.algorithm_lab.specs.Heard.{Heard, deeds_heard, heard_of_crash}
 use Rattle.algorithm_lab.specs.Sections.{bound_if, excess, bounds_steps, section_at, steps_after}
 use Rattle.algorithm_lab.specs.declared.run_refusal.RunRefusal.{RunRefusal}
 use Rattle.algorithm_lab.specs.declared.run_refusal.RunRefusal.TheVariants.{Refused, NotOwner, AlreadyIn, OutOfMemory}
 use Rattle.algorithm_lab.specs.declared.run_report.TextReport.{TextReport}
-use Rattle.algorithm_lab.specs.declared.run_report.TextReport.TheVariants.{Answered, Exceeded}
+use Rattle.algorithm_lab.specs.declared.run_report.TextReport.TheVariants.{Answered, Exceeded, Broken}
 use Rattle.algorithm_lab.specs.declared.section.BoundedSection.{BoundedSection}
 use Rattle.algorithm_lab.specs.declared.section.StepBound.{StepBound}
 
@@ -127,13 +128,27 @@ excess_reports p (Some section) = Exceeded p section ∷ []
 abbrev pub with_excess : ℕ → Option BoundedSection → Heard → Heard
 with_excess p excess h = record { reports = excess_reports p excess ++ h.reports; phase = h.phase }
 
--- an event of p that is heard so, and leaves it with this number of own steps
+-- the report that the condition of the claim of a line holds, if one does
+abbrev pub broken_reports : Option ℕ → List TextReport
+broken_reports None = []
+broken_reports (Some line) = Broken line ∷ []
+
+-- the monitor after an event of p, which leaves p in this phase and with this number of own steps
+abbrev pub monitor_left : MonitorState → ℕ → AlgorithmWorldState → Phase → ℕ → MonitorState
+monitor_left m p world phase steps = record { world = world; phases = slice_set m.phases p phase; steps = slice_set m.steps p steps }
+
+-- the line of a claim whose condition holds in the first state, else of one whose condition holds in the second
+abbrev pub broken_between : MonitorState → MonitorState → Option ℕ
+broken_between m left = or_line (claim_broken m.world m.phases) (claim_broken left.world left.phases)
+
+-- An event of p that is heard so, and leaves it with this number of own steps. That a condition holds is reported first, since it may
+-- hold before the event: a start reports nothing.
 abbrev pub part_of : MonitorState → ℕ → AlgorithmWorldState → Heard → Option ℕ → ℕ → EventPart
 part_of m p world h answer steps =
     record {
-      reports = h.reports ++ answer_reports p answer;
+      reports = broken_reports (broken_between m (monitor_left m p world h.phase steps)) ++ (h.reports ++ answer_reports p answer);
       ended = is_some answer;
-      left = record { world = world; phases = slice_set m.phases p h.phase; steps = slice_set m.steps p steps };
+      left = monitor_left m p world h.phase steps;
     }
 
 -- what is heard of a step of p

@@ -6,6 +6,7 @@ use Rattle.std.specs.declared.alloc.Global.{Global}
 use Rattle.judge.specs.Table.{empty_state}
 use Rattle.redomail.specs.declared.deed.Deed.TheVariants.{Outer}
 use Rattle.rmecore.specs.Simulated.{one_more}
+use Rattle.rmecore.specs.declared.fault.Fault.TheVariants.{BrokenClaim}
 use Rattle.schedule.specs.Deeds.{words_of_deed}
 use Rattle.schedule.specs.Reports.{verdict_line}
 use Rattle.schedule.specs.Verdicts.{verdict_on}
@@ -17,7 +18,7 @@ use Rattle.algorithms.specs.Worlds.{AlgorithmWorldState}
 use Rattle.algorithms.specs.declared.algorithm.Algorithm.{Algorithm}
 use Rattle.algorithms.specs.declared.algorithm.Declaration.{Declaration}
 use Rattle.algorithm_lab.specs.declared.run_report.TextReport.{TextReport}
-use Rattle.algorithm_lab.specs.declared.run_report.TextReport.TheVariants.{Did, Answered, Exceeded}
+use Rattle.algorithm_lab.specs.declared.run_report.TextReport.TheVariants.{Did, Answered, Exceeded, Broken}
 use Rattle.algorithm_lab.specs.declared.section.BoundedSection.{BoundedSection}
 use Rattle.algorithm_lab.specs.declared.section.BoundedSection.TheVariants.{Exit, Recovery, Doorway}
 use Rattle.algorithm_lab.specs.Sections.{excess_fault}
@@ -37,11 +38,12 @@ word_of_section Exit = codes "exit"
 word_of_section Recovery = codes "recovery"
 word_of_section Doorway = codes "doorway"
 
--- the line of a deed, of an answer or of an excess
+-- the line of a deed, of an answer or of a breach
 abbrev pub line_of_report : Algorithm → TextReport → List ℕ
 line_of_report a (Did outer) = line_of (words_of_deed (Outer outer))
 line_of_report a (Answered p answer) = codes "answer" ++ 32 ∷ decimal p ++ 32 ∷ words_of_answer (slice_get a.answers.items answer) ++ 10 ∷ []
 line_of_report a (Exceeded p section) = codes "exceeds" ++ 32 ∷ decimal p ++ 32 ∷ word_of_section section ++ 10 ∷ []
+line_of_report a (Broken line) = codes "breaks" ++ 32 ∷ decimal line ++ 10 ∷ []
 
 -- the lines of what a run reports
 abbrev pub reports_text : Algorithm → List TextReport → List ℕ
@@ -62,17 +64,20 @@ words_text procs limit rows at [] = []
 words_text procs limit rows at (declaration ∷ declarations) =
     words_line procs limit declaration (slice_index_or rows at []) ++ words_text procs limit rows (at + 1) declarations
 
-abbrev pub is_excess : TextReport → Bool
-is_excess (Did outer) = false
-is_excess (Answered p answer) = false
-is_excess (Exceeded p section) = true
+-- a promise on own steps, or a claim, is broken
+abbrev pub is_breach : TextReport → Bool
+is_breach (Did outer) = false
+is_breach (Answered p answer) = false
+is_breach (Exceeded p section) = true
+is_breach (Broken line) = true
 
--- the verdict on the own steps: against the first excess, by the number of the deed that comes next
-abbrev pub steps_verdict : ℕ → List TextReport → Verdict
-steps_verdict k [] = Fine
-steps_verdict k (Did outer ∷ reports) = steps_verdict (one_more k) reports
-steps_verdict k (Answered p answer ∷ reports) = steps_verdict k reports
-steps_verdict k (Exceeded p section ∷ reports) = Against k (excess_fault section)
+-- the verdict on own steps and claims: against the first breach, by the number of the deed that comes next
+abbrev pub promises_verdict : ℕ → List TextReport → Verdict
+promises_verdict k [] = Fine
+promises_verdict k (Did outer ∷ reports) = promises_verdict (one_more k) reports
+promises_verdict k (Answered p answer ∷ reports) = promises_verdict k reports
+promises_verdict k (Exceeded p section ∷ reports) = Against k (excess_fault section)
+promises_verdict k (Broken line ∷ reports) = Against k BrokenClaim
 
 abbrev pub is_against : Verdict → Bool
 is_against Fine = false
@@ -83,9 +88,10 @@ abbrev pub or_verdict : Verdict → Verdict → Verdict
 or_verdict Fine other = other
 or_verdict (Against at fault) other = Against at fault
 
--- the verdict on what is reported: that of a judge of a new lock on the deeds, and where it allows all of them, that on the own steps
+-- the verdict on what is reported: that of a judge of a new lock on the deeds, and where it allows all of them, that on own steps
+-- and claims
 abbrev pub verdict_of : ℕ → List TextReport → Verdict
-verdict_of procs reports = or_verdict (verdict_on (empty_state procs 1) (deeds_of reports)) (steps_verdict 1 reports)
+verdict_of procs reports = or_verdict (verdict_on (empty_state procs 1) (deeds_of reports)) (promises_verdict 1 reports)
 
 -- the end of the report of a run that reports this, and leaves this world: the shared words, and the verdict
 abbrev pub report_end : AlgorithmWorldState → List TextReport → List ℕ

@@ -5,6 +5,7 @@ use Rattle.rmecore.specs.declared.phase.Phase.TheVariants.{Out}
 use Rattle.rmeworld.specs.declared.call.Call.TheVariants as calls
 use Rattle.rmeworld.specs.declared.call.Call.{Call}
 use Rattle.schedule.specs.declared.lines.line.Line.{Line}
+use Rattle.schedule.specs.declared.lines.line.Line.TheVariants.{CrashAll}
 use Rattle.schedule.specs.declared.texts.fault.OutOfMemory.{OutOfMemory as NoMemory}
 use Rattle.schedule.specs.Effects.{Effects}
 use Rattle.schedule.specs.Fragments.{Fragment, line_on as line_by, run_on as run_by}
@@ -14,7 +15,7 @@ use Rattle.algorithms.specs.declared.algorithm.AlgorithmCall.TheVariants.{Lock, 
 use Rattle.algorithms.specs.declared.algorithm.AlgorithmCall.{AlgorithmCall}
 use Rattle.algorithms.specs.declared.process.AlgorithmProcess.{AlgorithmProcess}
 use Rattle.algorithms.specs.LocalRuns.{nothing_noted}
-use Rattle.algorithms.specs.Worlds.{AlgorithmWorldState, advance, process_of}
+use Rattle.algorithms.specs.Worlds.{AlgorithmWorldState, advance, crash, process_of}
 use Rattle.algorithms.specs.declared.refusal.AlgorithmRefusal.{AlgorithmRefusal}
 use Rattle.algorithms.specs.declared.refusal.AlgorithmRefusal.TheVariants.{NoSuchCall}
 use Rattle.redomail.specs.declared.deed.Deed.{Deed}
@@ -25,8 +26,8 @@ use Rattle.algorithm_lab.specs.declared.monitor_event.MonitorStep.{MonitorStep}
 use Rattle.algorithm_lab.specs.declared.run_refusal.RunRefusal.{RunRefusal}
 use Rattle.algorithm_lab.specs.declared.run_refusal.RunRefusal.TheVariants.{Refused, OutOfMemory}
 use Rattle.algorithm_lab.specs.declared.run_report.TextReport.{TextReport}
-use Rattle.algorithm_lab.specs.declared.run_report.TextReport.TheVariants.{Did, Answered, Exceeded}
-use Rattle.algorithm_lab.specs.Monitors.{MonitorState, EventPart, answer_reports, crash_on, excess_of, left_by, part_of_start, phase_of, refusal_by, start_on, step_on, with_excess}
+use Rattle.algorithm_lab.specs.declared.run_report.TextReport.TheVariants.{Did, Answered, Exceeded, Broken}
+use Rattle.algorithm_lab.specs.Monitors.{MonitorState, EventPart, answer_reports, broken_between, broken_reports, crash_on, excess_of, left_by, monitor_left, part_of_start, part_of_step, phase_of, refusal_by, start_on, step_on, with_excess}
 
 -- the deeds in what is reported
 abbrev pub deeds_of : List TextReport → List Deed
@@ -34,6 +35,7 @@ deeds_of [] = []
 deeds_of (Did outer ∷ reports) = Outer outer ∷ deeds_of reports
 deeds_of (Answered p answer ∷ reports) = deeds_of reports
 deeds_of (Exceeded p section ∷ reports) = deeds_of reports
+deeds_of (Broken line ∷ reports) = deeds_of reports
 
 -- ---- a monitor as a machine on which a schedule is played
 
@@ -60,10 +62,27 @@ start_part m p call = part_of_start (start_by m p (call_of call))
 
 -- what a step says, by what it says in the world. One that is refused says nothing
 abbrev pub said_by : MonitorState → ℕ → Result (Advanced × AlgorithmWorldState) AlgorithmRefusal → MonitorStep
-said_by m p (Ok s) = record { advanced = s.0; phase = phase_of m p; promises = m.world.algorithm.promises; excess = excess_of m p }
+said_by m p (Ok s) =
+    record {
+      advanced = s.0;
+      phase = phase_of m p;
+      promises = m.world.algorithm.promises;
+      excess = excess_of m p;
+      broken = broken_between m (part_of_step m p s).left;
+    }
 said_by m p (Err e) =
     let nothing : Advanced = record { access = record { address = record { declaration = 0; index = 0 }; stores = None; swaps = false }; value = 0; noted = nothing_noted; answer = None; blocked = false } in
-    record { advanced = nothing; phase = Out; promises = m.world.algorithm.promises; excess = None }
+    record { advanced = nothing; phase = Out; promises = m.world.algorithm.promises; excess = None; broken = None }
+
+-- what a crash says, by the world that it leaves. One that is refused says nothing
+abbrev pub crash_said_by : MonitorState → ℕ → Result AlgorithmWorldState AlgorithmRefusal → MonitorCrash
+crash_said_by m p (Ok w) =
+    record {
+      phase = phase_of m p;
+      promises = m.world.algorithm.promises;
+      broken = broken_between m (monitor_left m p w (heard_of_crash m.world.algorithm.promises p (phase_of m p)).phase 0);
+    }
+crash_said_by m p (Err e) = record { phase = phase_of m p; promises = m.world.algorithm.promises; broken = None }
 
 abbrev pub monitor_transitions : Transitions MonitorState MonitorStep MonitorCrash RunRefusal
 monitor_transitions =
@@ -74,7 +93,7 @@ monitor_transitions =
       step = λ m p. said_by m p (advance m.world p);
       stepped = λ m p. left_by m (step_on m p);
       crash_refusal = λ m p. refusal_by (crash_on m p);
-      crash = λ m p. record { phase = phase_of m p; promises = m.world.algorithm.promises };
+      crash = λ m p. crash_said_by m p (crash m.world p);
       crashed = λ m p. left_by m (crash_on m p);
       ends = λ step. is_some step.advanced.answer;
       is_silent = λ step. false;
@@ -88,8 +107,8 @@ step_heard p step = with_excess p step.excess (deeds_heard step.promises p step.
 
 -- what an event reports: what is heard of it, and then the answer of its call
 abbrev pub event_reports : RunEvent MonitorStep MonitorCrash → List TextReport
-event_reports (Took p step) = (step_heard p step).reports ++ answer_reports p step.advanced.answer
-event_reports (Fell p crash) = (heard_of_crash crash.promises p crash.phase).reports ++ answer_reports p None
+event_reports (Took p step) = broken_reports step.broken ++ ((step_heard p step).reports ++ answer_reports p step.advanced.answer)
+event_reports (Fell p crash) = broken_reports crash.broken ++ ((heard_of_crash crash.promises p crash.phase).reports ++ answer_reports p None)
 
 -- ---- runs
 
@@ -100,6 +119,10 @@ AlgorithmRun R = Fragment TextReport MonitorState R
 -- one line. A line of steps is refused where one of them is, and the steps before that one were taken
 abbrev pub line_on : MonitorState → Line → AlgorithmRun RunRefusal
 line_on m line = line_by monitor_transitions event_reports m line
+
+-- a crash of all, as one event
+abbrev pub crash_all_on : MonitorState → Result EventPart RunRefusal
+crash_all_on m = Ok (record { reports = (line_on m CrashAll).reports; ended = false; left = (line_on m CrashAll).left })
 
 -- the lines from number k on
 abbrev pub run_on : ℕ → MonitorState → List Line → AlgorithmRun (ℕ × RunRefusal)

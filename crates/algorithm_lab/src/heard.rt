@@ -3,7 +3,7 @@
 ghost use Rattle.std.specs.Prelude.{◌≡◌, ◌++◌, ◌∷◌, [], OnOk};
 ghost use Rattle.schedule.specs.Transitions.{Took, Fell};
 ghost use Rattle.algorithm_lab.specs.Heard.{doorway_reports, doorway_end_reports, entered_out_of_order, entry_reports, heard_of, phase_after, given_up, ended_by_crash, phase_crashed, heard_if, phase_if, deeds_heard, heard_of_crash};
-ghost use Rattle.algorithm_lab.specs.Monitors.{answer_reports, excess_reports};
+ghost use Rattle.algorithm_lab.specs.Monitors.{answer_reports, broken_reports, excess_reports};
 ghost use Rattle.algorithm_lab.specs.Runs.{event_reports};
 
 use crate::monitor_event::{MonitorCrash, MonitorStep};
@@ -188,10 +188,21 @@ fn put_excess(
     Ok(())
 }
 
+/// Adds that the condition of the claim of a line holds, if one does.
+fn put_broken(reports: &mut Vec<TextReport>, line: Option<u64>) -> Result<(), AllocError>
+    ensures { OnOk result (reports.new.items ≡ reports.old.items ++ broken_reports line) }
+{
+    if let Some(line) = line {
+        reports.push(TextReport::Broken(line))?;
+    }
+    Ok(())
+}
+
 /// Adds what a step of p reports.
 pub fn put_step(reports: &mut Vec<TextReport>, p: u64, step: &MonitorStep) -> Result<(), AllocError>
     ensures { OnOk result (reports.new.items ≡ reports.old.items ++ event_reports (Took p step.now)) }
 {
+    put_broken(reports, step.broken)?;
     put_excess(reports, p, step.excess)?;
     put_all_heard(reports, step.promises, p, step.phase, step.advanced.noted)?;
     put_answer(reports, p, step.advanced.answer)
@@ -244,6 +255,7 @@ pub fn put_crash(
 ) -> Result<(), AllocError>
     ensures { OnOk result (reports.new.items ≡ reports.old.items ++ event_reports (Fell p crash.now)) }
 {
+    put_broken(reports, crash.broken)?;
     end_by_crash(reports, crash.promises, p, crash.phase)?;
     put(reports, Outer::Crash(p))
 }

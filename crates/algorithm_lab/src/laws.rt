@@ -1,7 +1,7 @@
 //! What the text of the recoverable Bakery means, and of what a verdict comes. Each law is the contract of a function with an empty
 //! body.
 
-ghost use Rattle.std.specs.Prelude.{◌≡◌, ◌<◌, ◌≤◌, ◌^◌, false, ℕ, List, [], ◌++◌, All, Some, None, Result, IfOk, option_and_then, option_map};
+ghost use Rattle.std.specs.Prelude.{◌≡◌, ◌≢◌, ◌<◌, ◌≤◌, ◌^◌, false, ℕ, List, [], ◌++◌, All, Some, None, Result, IfOk, option_and_then, option_map};
 ghost use Rattle.rmecore.specs.Machine.{answer};
 ghost use Rattle.rmecore.specs.Paid.{is_glance};
 ghost use Rattle.rmecore.specs.Place.{Starts, Crashes};
@@ -11,6 +11,7 @@ ghost use Rattle.rmecore.specs.World.{World, IsReached, at_rest, deed};
 ghost use Rattle.rmecore.specs.declared.core_done.CoreDone.{CoreDone};
 ghost use Rattle.rmecore.specs.declared.happened.Happened.{Happened};
 ghost use Rattle.rmecore.specs.declared.outer.Outer.{Outer};
+ghost use Rattle.rmecore.specs.declared.phase.Phase.{Phase as PhaseOf};
 ghost use Rattle.rmecore.specs.declared.refusal.Refusal.{Refusal};
 ghost use Rattle.schedule.specs.Reports.{line_of_report as lock_line};
 ghost use Rattle.schedule.specs.Runs.{Answered as LockAnswered, run_on as lock_run_on};
@@ -21,10 +22,12 @@ ghost use Rattle.schedule.specs.declared.lines.line.Line.{Line as LineOf};
 ghost use Rattle.schedule.specs.declared.replays.verdict.Verdict.{Verdict as VerdictOf};
 ghost use Rattle.schedule.specs.declared.replays.verdict.Verdict.TheVariants.{Fine};
 ghost use Rattle.algorithms.specs.FirstWords.{from_zeros};
-ghost use Rattle.algorithms.specs.Worlds.{new_refusal};
+ghost use Rattle.algorithms.specs.Worlds.{AlgorithmWorldState as WorldOf, new_refusal};
 ghost use Rattle.algorithms.specs.declared.algorithm.Algorithm.{Algorithm};
 ghost use Rattle.algorithms.specs.declared.first_values.InitializedAlgorithm.{InitializedAlgorithm as InitializedOf};
 ghost use Rattle.algorithms.specs.declared.algorithm.AlgorithmCall.{AlgorithmCall};
+ghost use Rattle.algorithms.specs.declared.never_claim.NeverClaim.{NeverClaim as ClaimOf};
+ghost use Rattle.algorithm_lab.specs.Claims.{holds_of, is_broken};
 ghost use Rattle.algorithm_lab.specs.Monitors.{answer_reports, first_monitor};
 ghost use Rattle.algorithm_lab.specs.Refusals.{number_of_world};
 ghost use Rattle.algorithm_lab.specs.Bakery.{IsBakery};
@@ -96,9 +99,20 @@ pub fn the_text_is_never_found_out()
         → IfOk answer (λ verdict. verdict ≡ Fine) }
 {}
 
-/// A text that promises no bound on own steps is judged by its deeds alone, on every schedule.
+/// A text that promises no bound on own steps, and claims that nothing never holds, is judged by its deeds alone, on every schedule.
 pub fn without_bounds_only_deeds_count()
     ensures { (a : InitializedOf) (n limit : ℕ) (lines : List LineOf) → bounds_steps a.algorithm.promises ≡ false
-        → verdict_of n (run_of a n limit lines).reports
+        → a.algorithm.claims.items ≡ [] → verdict_of n (run_of a n limit lines).reports
         ≡ verdict_on (empty_state n 1) (deeds_of (run_of a n limit lines).reports) }
+{}
+
+/// Where a monitor does not find a claim of the text broken, its condition holds of no different processes of that state.
+pub fn unbroken_claims_hold_of_nobody()
+    ensures none { (w : WorldOf) (phases : List PhaseOf) (claim : ClaimOf) → claim.processes ≡ 0 → is_broken w phases claim ≡ false
+        → holds_of w phases claim None None ≡ false }
+    ensures one { (w : WorldOf) (phases : List PhaseOf) (claim : ClaimOf) (p : ℕ) → claim.processes ≡ 1
+        → is_broken w phases claim ≡ false → p < w.procs → holds_of w phases claim (Some p) None ≡ false }
+    ensures two { (w : WorldOf) (phases : List PhaseOf) (claim : ClaimOf) (p q : ℕ) → claim.processes ≡ 2
+        → is_broken w phases claim ≡ false → p < w.procs → q < w.procs → q ≢ p
+        → holds_of w phases claim (Some p) (Some q) ≡ false }
 {}

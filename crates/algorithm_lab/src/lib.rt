@@ -3,6 +3,7 @@
 //! Main items: `Monitor`, `replay_algorithm`, `laws`.
 #![tactic(auto)]
 
+mod claims;
 pub mod heard;
 pub mod laws;
 pub mod line_play;
@@ -17,7 +18,7 @@ pub mod section;
 mod step_counts;
 pub mod verdict;
 
-pub use line_play::{hear_lines, play_lines};
+pub use line_play::{crash_all, hear_lines, play_lines};
 pub use monitor::{Monitor, MonitorCheckpoint};
 pub use monitor_event::{MonitorCrash, MonitorStep};
 pub use replay::{ReplayText, replay_algorithm, report_of_run};

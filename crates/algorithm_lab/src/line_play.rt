@@ -1,9 +1,10 @@
 //! Plays the lines of a schedule on a world of an algorithm.
 
-ghost use Rattle.std.specs.Prelude.{◌≡◌, IfOk, OnOk};
+ghost use Rattle.std.specs.Prelude.{◌≡◌, IfErr, IfOk, OnOk};
 ghost use Rattle.schedule.specs.Fragments.{itself, run_on as run_by};
 ghost use Rattle.schedule.specs.Plays.{PlaysAll};
-ghost use Rattle.algorithm_lab.specs.Runs.{monitor_transitions, run_on, AddsRun};
+ghost use Rattle.algorithm_lab.specs.Monitors.{IsReportedPart};
+ghost use Rattle.algorithm_lab.specs.Runs.{crash_all_on, monitor_transitions, run_on, AddsRun};
 
 use crate::heard::{put_crash, put_step};
 use crate::monitor::Monitor;
@@ -66,4 +67,15 @@ pub fn play_lines(
     ensures refused { IfOk result (λ refused. refused ≡ (run_on 2 monitor.old lines.now).refused) }
 {
     hear_lines(monitor, reports, lines)
+}
+
+/// Crashes every process, and adds what that reports. It is not refused. `OutOfMemory`: the monitor is of no more use.
+pub fn crash_all(monitor: &mut Monitor, reports: &mut Vec<TextReport>) -> Result<(), RunRefusal>
+    ensures ok { OnOk result (IsReportedPart (crash_all_on monitor.old) reports.old.items reports.new.items monitor.new) }
+    ensures memory { IfErr result (λ e. e ≡ RunRefusal.OutOfMemory) }
+{
+    match play_lines(monitor, &[Line::CrashAll], reports) {
+        Ok(_) => Ok(()),
+        Err(AllocError) => Err(RunRefusal::OutOfMemory),
+    }
 }

@@ -1,4 +1,4 @@
-//! The verdict on what a run reports: that of a judge on its deeds, and that on its own steps.
+//! The verdict on what a run reports: that of a judge on its deeds, and that on what else is promised.
 
 ghost use Rattle.std.specs.Prelude.{◌≡◌, ◌∷◌, [], IfOk};
 ghost use Rattle.std.specs.List.{list_any};
@@ -7,11 +7,12 @@ ghost use Rattle.judge.specs.Table.{State};
 ghost use Rattle.schedule.specs.RunningVerdicts.{running_judge, Hears};
 ghost use Rattle.schedule.specs.Verdicts.{verdict_on};
 ghost use Rattle.algorithm_lab.specs.Runs.{deeds_of};
-ghost use Rattle.algorithm_lab.specs.Reports.{is_excess, or_verdict, steps_verdict, verdict_of};
+ghost use Rattle.algorithm_lab.specs.Reports.{is_breach, or_verdict, promises_verdict, verdict_of};
 
 use crate::run_report::TextReport;
 use judge::Judge;
 use redomail::Deed;
+use rmecore::Fault;
 use schedule::Verdict;
 use schedule::replays::running_verdict::RunningVerdict;
 use std::alloc::{AllocError, Global};
@@ -23,7 +24,7 @@ fn hear(running_verdict: &mut RunningVerdict, judge: &mut Judge, reports: &TextR
 {
     match reports {
         TextReport::Did(outer) => running_verdict.hear(judge, &Deed::Outer(*outer)),
-        TextReport::Answered(_, _) | TextReport::Exceeded(_, _) => {}
+        TextReport::Answered(_, _) | TextReport::Exceeded(_, _) | TextReport::Broken(_) => {}
     }
 }
 
@@ -37,26 +38,26 @@ pub fn hear_all(running_verdict: &mut RunningVerdict, judge: &mut Judge, reports
     }
 }
 
-/// Whether it is an excess.
-fn is_excess(report: &TextReport) -> bool
-    ensures { result ≡ is_excess report.now }
+/// Whether it is a breach of a promise on own steps, or of a claim.
+fn is_breach(report: &TextReport) -> bool
+    ensures { result ≡ is_breach report.now }
 {
     match report {
-        TextReport::Exceeded(_, _) => true,
+        TextReport::Exceeded(_, _) | TextReport::Broken(_) => true,
         TextReport::Did(_) | TextReport::Answered(_, _) => false,
     }
 }
 
-/// Whether an excess is reported.
-pub fn has_excess(reports: &[TextReport]) -> bool
-    ensures { result ≡ list_any is_excess reports.now }
+/// Whether a breach is reported.
+pub fn has_breach(reports: &[TextReport]) -> bool
+    ensures { result ≡ list_any is_breach reports.now }
 {
-    reports.iter().any(|report| is_excess(report))
+    reports.iter().any(|report| is_breach(report))
 }
 
-/// The verdict on the own steps: against the first excess, by the number of the deed that comes next.
-fn steps_verdict(reports: &[TextReport]) -> Verdict
-    ensures { result ≡ steps_verdict 1 reports.now }
+/// The verdict on own steps and claims: against the first breach, by the number of the deed that comes next.
+fn promises_verdict(reports: &[TextReport]) -> Verdict
+    ensures { result ≡ promises_verdict 1 reports.now }
 {
     let mut number: u64 = 1;
     for report in reports {
@@ -66,6 +67,10 @@ fn steps_verdict(reports: &[TextReport]) -> Verdict
             TextReport::Exceeded(_, section) => return Verdict::Against {
                 at: number,
                 fault: section.fault(),
+            },
+            TextReport::Broken(_) => return Verdict::Against {
+                at: number,
+                fault: Fault::BrokenClaim,
             },
         }
     }
@@ -91,8 +96,8 @@ fn judge_reports(judge: &mut Judge, reports: &[TextReport]) -> Verdict
     running_verdict.verdict()
 }
 
-/// The verdict on what a run reports: that of a judge of a new lock on its deeds, and where it allows all of them, that on its
-/// own steps.
+/// The verdict on what a run reports: that of a judge of a new lock on its deeds, and where it allows all of them, that on own
+/// steps and claims.
 pub fn verdict_of(alloc: Global, procs: u64, reports: &[TextReport]) -> Result<Verdict, AllocError>
     ensures { IfOk result (λ verdict. verdict ≡ verdict_of procs reports.now) }
 {
@@ -100,5 +105,5 @@ pub fn verdict_of(alloc: Global, procs: u64, reports: &[TextReport]) -> Result<V
         return Err(AllocError);
     };
     let judged = judge_reports(&mut judge, reports);
-    Ok(or_verdict(judged, steps_verdict(reports)))
+    Ok(or_verdict(judged, promises_verdict(reports)))
 }

@@ -1,7 +1,0 @@
-use Rattle.std.proofs.Common.{◌≡◌, drop}
-use Rattle.algorithm_lab.specs.Reports.{steps_verdict}
-use Rattle.algorithm_lab.proofs.verdict.steps_verdict.Given as goal
-
--- the verdict on what is left, from this number on, is that on all of it
-abbrev pub invariant-loop-report : goal.invariant-loop-report
-invariant-loop-report l = steps_verdict 1 l.reports ≡ steps_verdict l.number (drop l.report-index l.reports)

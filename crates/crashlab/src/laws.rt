@@ -1,15 +1,18 @@
 //! Laws of worlds of the variants. Each is the contract of a function that does nothing.
 
-ghost use Rattle.std.specs.Prelude.{◌≡◌, ◌+◌, ◌<◌, ℕ, Some, None};
+ghost use Rattle.std.specs.Prelude.{◌≡◌, ◌+◌, ◌<◌, ◌≤◌, ℕ, map, Some, None};
+ghost use Rattle.std.specs.List.{range_with_len};
 ghost use Rattle.rmecore.specs.Machine.{kind_of, carried_value};
 ghost use Rattle.rmecore.specs.declared.access.Access.{Access};
 ghost use Rattle.redomail.specs.declared.layout.Layout.{Layout};
 ghost use Rattle.rmeworld.specs.declared.call.Call.{Call};
 ghost use Rattle.rmeworld.specs.ProcessState.{ProcessState, WorldEvent, Begins, Falls, at_rest, next_process_state, lock_deed};
+ghost use Rattle.schedule.specs.Runs.{IsSameAsLines};
+ghost use Rattle.schedule.specs.declared.lines.line.Line.TheVariants.{Crash, CrashAll};
 ghost use Rattle.crashlab.specs.hunts.Hunted.{found_from, hunt_result, or_else};
 ghost use Rattle.crashlab.specs.declared.variants.deviation.Deviation.TheVariants.{Straight};
 ghost use Rattle.crashlab.specs.variants.VariantProcessStates.{beside, variant_process_state, variant_outer, variant_answer_at, variant_done_at, variant_access_at};
-ghost use Rattle.crashlab.specs.variants.VariantWorlds.{VariantState, new_world, start_refusal, variant_after_start, access_at, found_by, variant_step_report, variant_after_step, variant_after_crash};
+ghost use Rattle.crashlab.specs.variants.VariantWorlds.{VariantState, new_world, start_refusal, variant_after_start, access_at, found_by, variant_step_report, variant_after_step, variant_after_crash, variant_behaviour};
 ghost use Rattle.crashlab.specs.variants.VariantRuns.{IsVariantRun, process_state_at, move};
 
 use crate::variants::variant::Variant;
@@ -40,6 +43,12 @@ pub fn variants_keep_to_their_rows()
     ensures falls { (s : VariantState) (p : ℕ) → IsVariantRun s → p < s.layout.procs
         → variant_process_state s.variant s.layout s.limit (process_state_at s p) (Falls p)
         ≡ Some (process_state_at (variant_after_crash s p) p) }
+{}
+
+/// On a world of a variant, too, the line `crash all` is a crash of each process in a row.
+pub fn crash_all_of_a_variant_is_each_crash()
+    ensures { (world : VariantState) → world.layout.procs ≤ 64
+        → IsSameAsLines variant_behaviour world CrashAll (map Crash (range_with_len 0 world.layout.procs)) }
 {}
 
 /// A hunt is that of its parts: what some rounds find is what the first of them find, or else what those after them find. So of shards

@@ -5,10 +5,10 @@ use Rattle.std.proofs.lemmas.List.Concat.{flat_map-append, flat_map-cons}
 use Rattle.std.specs.List.{flat_map}
 use Rattle.schedule.specs.Transitions.{RunEvent, Took, Fell, Transitions, StepsFrom, IsShown, IsLoud}
 use Rattle.schedule.specs.Effects.{Effects, HearsAll, BreaksOffAt}
-use Rattle.schedule.specs.Fragments.{Fragment, unless, fragment_after_line, late, first_or_late, itself, steps, refusal_in, later_steps, steps_line, crash_line, line_on, run_on}
-use Rattle.schedule.specs.Plays.{TakesUnheard, PlaysAll, StopsIn, RunsShort, Plays, PlaysOn, IsStopOf, IsLateEnd}
+use Rattle.schedule.specs.Fragments.{Fragment, unless, fragment_after_line, late, first_or_late, itself, steps, crashes_in_a_row, refusal_in, later_steps, later_crashes, steps_line, crash_line, line_on, run_on}
+use Rattle.schedule.specs.Plays.{TakesUnheard, PlaysAll, StopsIn, RunsShort, Plays, PlaysOn, IsStopOf, IsLastCrash, IsLateEnd}
 use Rattle.schedule.specs.declared.lines.line.Line.{Line}
-use Rattle.schedule.specs.declared.lines.line.Line.TheVariants.{Start, Step, Crash}
+use Rattle.schedule.specs.declared.lines.line.Line.TheVariants.{Start, Step, Crash, CrashAll}
 use Rattle.schedule.specs.declared.player.play_stop.PlayStop.{PlayStop}
 use Rattle.schedule.specs.declared.player.play_stop.PlayStop.TheVariants.{Refused, OutOfMemory, Stopped}
 
@@ -281,6 +281,20 @@ module _ {S T C R X : Type 0} (m : Transitions S T C R) (report : RunEvent T C �
             ]
       ]
 
+  pub crashes_reported : (p n : ℕ) (s : S) → crashes_in_a_row m report p n s ≡ (flat_map report (crashes_in_a_row m itself p n s).0, (crashes_in_a_row m itself p n s).1)
+  unfolding crashes_in_a_row
+  crashes_reported p zero s = refl
+  crashes_reported p (suc n) s =
+      elim (cases_Bool (is_some (m.crash_refusal s p))) [
+        | inl refused ↦ rw refused refl
+        | inr taken ↦
+            let rest = crashes_in_a_row m itself (p + 1) n (m.crashed s p) in
+            rw taken (
+            ap (λ (more : List X × S). (report (Fell p (m.crash s p)) ++ more.0, more.1)) (crashes_reported (p + 1) n (m.crashed s p))
+            ∙ ap (λ (xs : List X). (xs, rest.1)) (sym (flat_map-cons report (Fell p (m.crash s p)) rest.0))
+            )
+      ]
+
   pub line_reported : (s : S) (line : Line) → line_on m report s line ≡ report_of report (line_on m itself s line)
   line_reported s (Start p call) = by (m.start_refusal s p call)
     where
@@ -297,6 +311,8 @@ module _ {S T C R X : Type 0} (m : Transitions S T C R) (report : RunEvent T C �
       by : (o : Option R) → unless o s (report one) (m.crashed s p) ≡ report_of report (unless o s (itself one) (m.crashed s p))
       by None = ap (λ (xs : List X). record { reports = xs; left = m.crashed s p; refused = None }) (sym (flat_map-cons report one [] ∙ append-nil (report one)))
       by (Some e) = refl
+  line_reported s CrashAll =
+      ap (λ (part : List X × S). record { reports = part.0; left = part.1; refused = None }) (crashes_reported 0 64 s)
 
   followed_by : (k : ℕ) (part : Fragment (RunEvent T C) S R) (o : Option R) (rest : Fragment (RunEvent T C) S (ℕ × R))
       → fragment_after_line k (report_of report part) o (report_of report rest) ≡ report_of report (fragment_after_line k part o rest)
@@ -375,3 +391,75 @@ module _ {L S T C R Stop : Type 0} (m : Transitions S T C R) (h : Effects L (Run
       (rw (refused halts.1) record { hears = refl; stands = same; refused_is = ap Some (sym halts.0) }, λ memory. halts.1 (sym halts.0 ∙ memory))
   crash_halts before s t e OutOfMemory refused memory same halts = rw (memory halts) (inl (refl, tt))
   crash_halts before s t e (Stopped stop) refused memory same halts = absurd halts
+
+-- ---- the crashes of all processes
+
+module _ {S T C R : Type 0} (m : Transitions S T C R) where
+  one_crash : (p n : ℕ) (s t : S) (x : C) → m.crash_refusal s p ≡ None → x ≡ m.crash s p → t ≡ m.crashed s p
+      → later_crashes m itself p (suc n) s ≡ preceded (Fell p x ∷ []) (later_crashes m itself (p + 1) n t)
+  unfolding crashes_in_a_row
+  one_crash p n s t x taken said left = rw (said, left, taken) refl
+
+  crash_refused : (p n : ℕ) (s : S) (e : R) → m.crash_refusal s p ≡ Some e → later_crashes m itself p n s ≡ record { reports = []; left = s; refused = None }
+  unfolding crashes_in_a_row
+  crash_refused p zero s e refused = refl
+  crash_refused p (suc n) s e refused = rw refused refl
+
+  no_crash : (p : ℕ) (s : S) → later_crashes m itself p zero s ≡ record { reports = []; left = s; refused = None }
+  unfolding crashes_in_a_row
+  no_crash p s = refl
+
+module _ {L S T C R Stop : Type 0} (m : Transitions S T C R) (h : Effects L (RunEvent T C) Stop) where
+  -- some crashes were heard, and these are still to be made
+  abbrev pub CrashesOn : Fragment (RunEvent T C) S R → L → L → ℕ → ℕ → S → Type 0
+  CrashesOn total before now p n s = (reports : List (RunEvent T C)) × HearsAll h.hears before reports now × (total ≡ preceded reports (later_crashes m itself p n s))
+
+  pub crashes_first : (p n : ℕ) (before : L) (s : S) → CrashesOn (later_crashes m itself p n s) before before p n s
+  crashes_first p n before s = ([], refl, refl)
+
+  -- the next crash is among those of all
+  crash_next : (total : Fragment (RunEvent T C) S R) (reports : List (RunEvent T C)) (p n k : ℕ) (s t : S) (x : C) → total ≡ preceded reports (later_crashes m itself p n s) → n ≡ suc k
+      → m.crash_refusal s p ≡ None → x ≡ m.crash s p → t ≡ m.crashed s p
+      → total ≡ preceded (reports ++ Fell p x ∷ []) (later_crashes m itself (p + 1) k t)
+  crash_next total reports p n k s t x still count taken said left =
+      let rest = later_crashes m itself (p + 1) k t in
+      still ∙ ap (λ (j : ℕ). preceded reports (later_crashes m itself p j s)) count ∙ ap (preceded reports) (one_crash m p k s t x taken said left)
+      ∙ ap (λ (xs : List (RunEvent T C)). record { reports = xs; left = rest.left; refused = rest.refused }) (sym (append_assoc reports (Fell p x ∷ []) rest.reports))
+
+  crash_reported : (total : Fragment (RunEvent T C) S R) (reports : List (RunEvent T C)) (p n k : ℕ) (s t : S) (x : C) → total ≡ preceded reports (later_crashes m itself p n s) → n ≡ suc k
+      → m.crash_refusal s p ≡ None → x ≡ m.crash s p → t ≡ m.crashed s p
+      → (after : List (RunEvent T C)) × (total.reports ≡ reports ++ Fell p x ∷ after)
+  crash_reported total reports p n k s t x still count taken said left =
+      let rest = later_crashes m itself (p + 1) k t in
+      (rest.reports, ap (λ (part : Fragment (RunEvent T C) S R). part.reports) (crash_next total reports p n k s t x still count taken said left) ∙ append_assoc reports (Fell p x ∷ []) rest.reports)
+
+  pub crashes_heard : (total : Fragment (RunEvent T C) S R) (before now next : L) (p n k : ℕ) (s t : S) (x : C) → CrashesOn total before now p n s → n ≡ suc k
+      → m.crash_refusal s p ≡ None → x ≡ m.crash s p → t ≡ m.crashed s p → h.hears now (Fell p x) next → CrashesOn total before next (p + 1) k t
+  crashes_heard total before now next p n k s t x on count taken said left hears =
+      (on.0 ++ Fell p x ∷ [], hears_more h.hears before now next on.0 (Fell p x) on.1 hears, crash_next total on.0 p n k s t x on.2 count taken said left)
+
+  -- the listener stops at the next crash
+  pub crashes_stopped : (total : Fragment (RunEvent T C) S R) (before now next : L) (p n k : ℕ) (s t : S) (x : C) (stop : Stop) → CrashesOn total before now p n s → n ≡ suc k
+      → m.crash_refusal s p ≡ None → x ≡ m.crash s p → t ≡ m.crashed s p → h.stops now (Fell p x) next stop → StopsIn h before next total stop
+  crashes_stopped total before now next p n k s t x stop on count taken said left stops =
+      let more = crash_reported total on.0 p n k s t x on.2 count taken said left in
+      stops_next m h before now next on.0 more.0 (Fell p x) total stop on.1 more.1 stops
+
+  -- all processes have crashed
+  pub crashes_end : (total : Fragment (RunEvent T C) S R) (before now : L) (p n : ℕ) (s : S) → CrashesOn total before now p n s → n ≡ 0 → PlaysAll h before now total s None
+  crashes_end total before now p n s on none =
+      let is = on.2 ∙ ap (λ (j : ℕ). preceded on.0 (later_crashes m itself p j s)) none ∙ ap (preceded on.0) (no_crash m p s)
+      ∙ ap (λ (xs : List (RunEvent T C)). record { reports = xs; left = s; refused = None }) (append-nil on.0) in
+      rw is record { hears = on.1; stands = refl; refused_is = refl }
+
+  -- there is no next process, or no memory for its crash
+  pub crashes_halt : (total : Fragment (RunEvent T C) S R) (before now : L) (p n k : ℕ) (s t : S) (e : R) (r : Result (Unit {0}) (PlayStop R Stop)) → CrashesOn total before now p n s → n ≡ suc k
+      → ((e ≡ m.out_of_memory → ⊥) → m.crash_refusal s p ≡ Some e) → (e ≡ m.out_of_memory → m.crash_refusal s p ≡ None) → t ≡ s → IsLastCrash m e r → Plays m h before now total t r
+  crashes_halt total before now p n k s t e (Ok x) on count refused memory same ends =
+      let is = on.2 ∙ ap (preceded on.0) (crash_refused m p n s e (refused ends)) ∙ ap (λ (xs : List (RunEvent T C)). record { reports = xs; left = s; refused = None }) (append-nil on.0) in
+      rw is record { hears = on.1; stands = same; refused_is = refl }
+  crashes_halt total before now p n k s t e (Err OutOfMemory) on count refused memory same ends =
+      let more = crash_reported total on.0 p n k s (m.crashed s p) (m.crash s p) on.2 count (memory ends) refl refl in
+      ends_next m h before now on.0 more.0 (Fell p (m.crash s p)) total on.1 more.1 tt
+  crashes_halt total before now p n k s t e (Err (Refused refusal)) on count refused memory same ends = absurd ends
+  crashes_halt total before now p n k s t e (Err (Stopped stop)) on count refused memory same ends = absurd ends

@@ -1,6 +1,6 @@
 -- What each call of a machine preserves, together with what is reported, the run of a schedule preserves.
 use Rattle.std.proofs.Common.{◌≡◌, ℕ, zero, suc, ◌+◌, false, is_some, List, [], ◌∷◌, ◌++◌, Option, Some, None, refl, sym, subst, inl, inr, append_assoc, append-nil}
-use Rattle.schedule.proofs.ReplaysCommon.{cases_Bool, Refusal, Call, Stepped, Line, Start, Step, Crash, Part, LockReport, Did, reports_of, Behaviour, unless, part_after_line, steps, line_on, run_on}
+use Rattle.schedule.proofs.ReplaysCommon.{cases_Bool, Refusal, Call, Stepped, Line, Start, Step, Crash, CrashAll, crashes_in_a_row, reports_by, transitions_of, Part, LockReport, Did, reports_of, Behaviour, unless, part_after_line, steps, line_on, run_on}
 
 accepted : (o : Option Refusal) → is_some o ≡ false → o ≡ None
 accepted None e = refl
@@ -34,6 +34,20 @@ module _ {S : Type 0} (b : Behaviour S) (P : S → List LockReport → Type 0) w
             ]
       ]
 
+  crashes_keep : (p n : ℕ) (s : S) (h : List LockReport) → IsKept → P s h
+      → P (crashes_in_a_row (transitions_of b) reports_by p n s).1 (h ++ (crashes_in_a_row (transitions_of b) reports_by p n s).0)
+  unfolding crashes_in_a_row
+  crashes_keep p zero s h keeps now = nothing_more s h now
+  crashes_keep p (suc n) s h keeps now =
+      let fell : List LockReport = Did (b.crash_deed s p) ∷ [] in
+      elim (cases_Bool (is_some (b.crash_refusal s p))) [
+        | inl e ↦ rw e (nothing_more s h now)
+        | inr e ↦
+            let on : P (b.crashed s p) (h ++ fell) = keeps.crashed s h p now (accepted (b.crash_refusal s p) e) in
+            let more = crashes_in_a_row (transitions_of b) reports_by (p + 1) n (b.crashed s p) in
+            rw e (subst (P more.1) (append_assoc h fell more.0) (crashes_keep (p + 1) n (b.crashed s p) (h ++ fell) keeps on))
+      ]
+
   pub line_keeps : (s : S) (h : List LockReport) (line : Line) → IsKept → P s h → P (line_on b s line).left (h ++ (line_on b s line).reports)
   unfolding line_on
   line_keeps s h (Start p call) keeps now = by (b.start_refusal s p call) refl
@@ -47,6 +61,7 @@ module _ {S : Type 0} (b : Behaviour S) (P : S → List LockReport → Type 0) w
       by : (o : Option Refusal) → b.crash_refusal s p ≡ o → P (unless o s (Did (b.crash_deed s p) ∷ []) (b.crashed s p)).left (h ++ (unless o s (Did (b.crash_deed s p) ∷ []) (b.crashed s p)).reports)
       by None may = keeps.crashed s h p now may
       by (Some refusal) refused = nothing_more s h now
+  line_keeps s h CrashAll keeps now = crashes_keep 0 64 s h keeps now
 
   followed_keeps : (k : ℕ) (part : Part S Refusal) (o : Option Refusal) (rest : Part S (ℕ × Refusal)) (h : List LockReport) → P part.left (h ++ part.reports) → P rest.left ((h ++ part.reports) ++ rest.reports)
       → P (part_after_line k part o rest).left (h ++ (part_after_line k part o rest).reports)

@@ -36,4 +36,5 @@ pub mod Busy
 pub mod Legs
 pub mod LineNumbers
 pub mod WorldRuns
+pub mod CrashLines
 pub mod Fed

@@ -1,6 +1,6 @@
 -- The lines that a run plays, by their numbers.
 use Rattle.std.proofs.Common.{◌≡◌, ℕ, zero, suc, ◌+◌, ◌-◌, ◌≤◌, is_some, true, List, [], ◌∷◌, take, Option, Some, None, IfSome, refl, ap, arith}
-use Rattle.schedule.proofs.ReplaysCommon.{Refusal, Line, Start, Step, Crash, Part, Did, Behaviour, unless, part_after_line, steps, line_on, run_on}
+use Rattle.schedule.proofs.ReplaysCommon.{Refusal, Line, Start, Step, Crash, CrashAll, Part, Did, Behaviour, unless, part_after_line, steps, line_on, run_on}
 use Rattle.schedule.specs.Executions.{lines_played}
 
 -- a line before the refused one is played
@@ -27,6 +27,7 @@ module _ {S : Type 0} (b : Behaviour S) where
           → ((unless o s (Did (b.crash_deed s p) ∷ []) (b.crashed s p)).left ≡ s) × ((unless o s (Did (b.crash_deed s p) ∷ []) (b.crashed s p)).reports ≡ [])
       by None stops = absurd (cc)
       by (Some refused) stops = (refl, refl)
+  line_stops s CrashAll refusal stops = absurd (cc)
 
   -- the refused line is none before the first
   pub numbers_rise : (k : ℕ) (s : S) (lines : List Line) → IfSome (run_on b k s lines).refused (λ refused. k ≤ refused.0)

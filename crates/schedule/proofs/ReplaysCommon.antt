@@ -2,7 +2,7 @@
 pub use Rattle.std.proofs.lemmas.Bool.{cases_Bool}
 pub use Rattle.std.specs.List.{onto_first, join_with_byte}
 pub use Rattle.schedule.specs.declared.lines.fault.LineFault.{LineFault}
-pub use Rattle.schedule.specs.declared.lines.line.Line.TheVariants.{Start, Step, Crash}
+pub use Rattle.schedule.specs.declared.lines.line.Line.TheVariants.{Start, Step, Crash, CrashAll}
 pub use Rattle.schedule.specs.Commands.{line_at}
 pub use Rattle.schedule.specs.Deeds.{deed_at, words_of_deed}
 pub use Rattle.schedule.specs.Words.{parts_of, line_of, words_of, ◌>>=◌}
@@ -36,6 +36,7 @@ pub use Rattle.schedule.specs.RunningVerdicts.{first_running_verdict, running_ju
 pub use Rattle.schedule.specs.Tapes.{Tape, Writes, BreaksOff}
 pub use Rattle.schedule.specs.ReplayStops.{Ends, IsRefused, ReplayStops, Tells, Stops, refused_at, fault_at, Runs, IsOver}
 pub use Rattle.schedule.specs.Reports.{reports_text, owns_text, words_of_verdict, verdict_line, IsEnd, line_of_report, messages_text}
+unfoldable pub use Rattle.schedule.specs.Fragments.{crashes_in_a_row}
 pub use Rattle.schedule.specs.Runs.{Part, deeds_of, LockReport, Did, reports_of, reports_by, unless, part_after_line, transitions_of, Answered, did, answer_reports}
 unfoldable pub use Rattle.schedule.specs.Runs.{steps, line_on, run_on}
 pub use Rattle.rmeworld.specs.Behaviours.{Behaviour}

@@ -1,9 +1,10 @@
 -- The run of a schedule on a world is an execution from where the world began, with the events of its lines, so its deeds are
 -- legal.
-use Rattle.std.proofs.Common.{◌≡◌, ℕ, zero, suc, ◌+◌, ◌-◌, ◌<◌, true, false, is_some, List, [], ◌∷◌, ◌++◌, All, length, map, Option, Some, None, Result, Ok, Err, IfOk, ◌⊎◌, refl, sym, ap, ◌∙◌, subst, inl, inr, append_assoc, append-nil, arith}
+use Rattle.std.proofs.Common.{◌≡◌, ℕ, zero, suc, ◌+◌, ◌-◌, ◌<◌, ◌≤◌, nat_lt, lt-ltb, le-ltb, true, false, is_some, List, [], ◌∷◌, ◌++◌, All, length, map, Option, Some, None, Result, Ok, Err, IfOk, ◌⊎◌, refl, sym, ap, ◌∙◌, subst, inl, inr, append_assoc, append-nil, arith}
+use Rattle.std.specs.List.{range_with_len}
 use Rattle.std.proofs.lemmas.List.Elements.{All-nil, All-cons}
 use Rattle.schedule.proofs.ReplaysCommon.{Fault, Refusal, one_more, Deed, empty_state, State, state_after_deed, Answer, Image, Stepped, new_refusal, WorldState, machine_state_at, process_state_at, global_state_of, Takes, new_world, image_world}
-use Rattle.schedule.proofs.ReplaysCommon.{Line, Start, Step, Crash, ReplayFault, Verdict, Fine, Tape, Part, deeds_of, LockReport, Did, Answered, reports_of, did, answer_reports, unless, part_after_line, steps, line_on, run_on, verdict_on, verdict_at, verdict_from, world_behaviour}
+use Rattle.schedule.proofs.ReplaysCommon.{Line, Start, Step, Crash, CrashAll, crashes_in_a_row, reports_by, transitions_of, ReplayFault, Verdict, Fine, Tape, Part, deeds_of, LockReport, Did, Answered, reports_of, did, answer_reports, unless, part_after_line, steps, line_on, run_on, verdict_on, verdict_at, verdict_from, world_behaviour}
 use Rattle.rmecore.specs.Machine.{kind_of}
 use Rattle.rmecore.specs.declared.access.Access.{Access}
 use Rattle.redomail.specs.Layout.{size}
@@ -152,6 +153,28 @@ module _ (l : Layout) (limit : ℕ) (first : GlobalState) where
             more_steps p n (global_state_of s) (global_state_of (world_after_step s p)) step.0 more.0 step.1 step.2.last more.2,
           )
 
+  abbrev crashes_of_world : ℕ → ℕ → WorldState → List LockReport × WorldState
+  crashes_of_world p k s = crashes_in_a_row (transitions_of world_behaviour) reports_by p k s
+
+  -- the crashes of p and of the n - 1 processes after it, which are the last ones
+  crashes_leg : (n p k : ℕ) (s : WorldState) (h : List LockReport) → Goes l limit first s h → n + p ≡ l.procs → n ≤ k
+      → Leg l limit (global_state_of s) (global_state_of (crashes_of_world p k s).1) (crashes_of_world p k s).0 (map Falls (range_with_len p n))
+  unfolding crashes_in_a_row
+  crashes_leg zero p zero s h now count few = leg_none l limit (global_state_of s)
+  crashes_leg zero p (suc k) s h now count few =
+      let gone : nat_lt p s.layout.procs ≡ false = le-ltb p s.layout.procs (omega (arith, count, ap (λ (x : Layout). x.procs) now.layout)) in
+      rw gone (leg_none l limit (global_state_of s))
+  crashes_leg (suc n) p zero s h now count few = absurd (omega (arith, few))
+  crashes_leg (suc n) p (suc k) s h now count few =
+      let below : p < s.layout.procs = omega (arith, count, ap (λ (x : Layout). x.procs) now.layout) in
+      let there : nat_lt p s.layout.procs ≡ true = lt-ltb p s.layout.procs below in
+      let may : crash_refusal s p ≡ None = rw there refl in
+      let one : Leg l limit (global_state_of s) (global_state_of (world_after_crash s p)) (Did (crash_deed p) ∷ []) (Falls p ∷ [])
+      = leg_one l limit now.layout now.limited (crash_takes s p now.follows.world.configured below) in
+      let on : Goes l limit first (world_after_crash s p) (h ++ Did (crash_deed p) ∷ []) = (world_keeps l limit first).crashed s h p now may in
+      let rest = crashes_leg n (p + 1) k (world_after_crash s p) (h ++ Did (crash_deed p) ∷ []) on (omega (arith, count)) (omega (arith, few)) in
+      rw there (leg_both l limit one rest)
+
   -- a line that is not refused
   line_leg : (s : WorldState) (h : List LockReport) (line : Line) → Goes l limit first s h → (line_on world_behaviour s line).refused ≡ None
       → (es : List WorldEvent) × Leg l limit (global_state_of s) (global_state_of (line_on world_behaviour s line).left) (line_on world_behaviour s line).reports es × IsLinePlayed l limit (global_state_of s) line es
@@ -169,6 +192,9 @@ module _ (l : Layout) (limit : ℕ) (first : GlobalState) where
           → (es : List WorldEvent) × Leg l limit (global_state_of s) (global_state_of (unless o s (Did (crash_deed p) ∷ []) (world_after_crash s p)).left) (unless o s (Did (crash_deed p) ∷ []) (world_after_crash s p)).reports es × (es ≡ Falls p ∷ [])
       by None may accepted = (Falls p ∷ [], leg_one l limit now.layout now.limited (crash_takes s p now.follows.world.configured (below_if p s.layout.procs None may).0), refl)
       by (Some refusal) refused accepted = absurd (cc)
+  line_leg s h CrashAll now fine =
+      let few : l.procs ≤ 64 = subst (λ (x : Layout). x.procs ≤ 64) now.layout now.follows.world.sized.layout.few in
+      (map Falls (range_with_len 0 l.procs), crashes_leg l.procs 0 64 s h now (omega arith) few, refl)
 
   -- the lines of a run
   run_leg : (k : ℕ) (s : WorldState) (h : List LockReport) (lines : List Line) → Goes l limit first s h

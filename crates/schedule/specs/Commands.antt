@@ -8,8 +8,8 @@ use Rattle.schedule.specs.declared.lines.command.Keyword.TheVariants as commands
 use Rattle.rmeworld.specs.declared.call.Call.{Call}
 use Rattle.rmeworld.specs.declared.call.Call.TheVariants as calls
 use Rattle.schedule.specs.declared.lines.line.Line.{Line}
-use Rattle.schedule.specs.declared.lines.line.Line.TheVariants.{Start, Step, Crash}
-use Rattle.schedule.specs.Words.{WordShape, Number, any, repeated_shape, is_nil, item_at}
+use Rattle.schedule.specs.declared.lines.line.Line.TheVariants.{Start, Step, Crash, CrashAll}
+use Rattle.schedule.specs.Words.{WordShape, Fixed, Number, any, repeated_shape, begins_with, is_nil, item_at}
 
 -- ---- each line has one spelling
 
@@ -30,6 +30,7 @@ abbrev pub words_of_line : Line → List (List ℕ)
 words_of_line (Start p call) = words_of_call p call
 words_of_line (Step p k) = codes "step" ∷ decimal p ∷ (if k == 1 then [] else decimal k ∷ [])
 words_of_line (Crash p) = codes "crash" ∷ decimal p ∷ []
+words_of_line CrashAll = codes "crash" ∷ codes "all" ∷ []
 
 -- what the types guarantee: numbers of 64 bits, K from 1 to 1,000,000, and a value of the schedule's width
 abbrev pub IsCall : ℕ → Call → Type 0
@@ -43,6 +44,7 @@ abbrev pub IsLine : ℕ → Line → Type 0
 IsLine width (Start p call) = (p < 2 ^ 64) × IsCall width call
 IsLine width (Step p k) = (p < 2 ^ 64) × (1 ≤ k) × (k ≤ 1000000)
 IsLine width (Crash p) = p < 2 ^ 64
+IsLine width CrashAll = Unit {0}
 
 -- whether each value that it holds has this width
 abbrev pub call_fits : ℕ → Call → Bool
@@ -90,13 +92,19 @@ commands_by_name =
     ∷ entry commands.Crash
     ∷ []
 
--- the places after a command; a step has a second one only where a second word follows
+-- the places after a command; a step has a second one only where a second word follows, and a crash of all has no number
 abbrev pub places : ℕ → Keyword → List (List ℕ) → List WordShape
 places width commands.Append ws = any ∷ any ∷ repeated_shape width
 places width commands.Put ws = any ∷ any ∷ any ∷ []
 places width commands.Get ws = any ∷ any ∷ []
 places width commands.Step ws = if is_nil (drop 1 ws) then any ∷ [] else any ∷ Number 2 1000000 ∷ []
+places width commands.Crash ws = if begins_with (codes "all") ws then Fixed (codes "all") ∷ [] else any ∷ []
 places width command ws = any ∷ []
+
+-- the crash of this process, or of all where there is no number
+abbrev pub crash_of : List ℕ → Line
+crash_of [] = CrashAll
+crash_of (p ∷ ns) = Crash p
 
 -- the line that a command makes of these numbers; a step with one number is one step
 abbrev pub line_with : Keyword → List ℕ → Line
@@ -110,7 +118,7 @@ line_with commands.Put ns = Start (slice_index ns 0) (calls.Put (slice_index ns 
 line_with commands.Get ns = Start (slice_index ns 0) (calls.Get (slice_index ns 1))
 line_with commands.Withdraw ns = Start (slice_index ns 0) calls.Withdraw
 line_with commands.Step ns = Step (slice_index ns 0) (slice_index_or ns 1 1)
-line_with commands.Crash ns = Crash (slice_index ns 0)
+line_with commands.Crash ns = crash_of ns
 
 -- the line that these words say, or its fault (the specification's Schedule grammar)
 abbrev pub line_at : ℕ → List (List ℕ) → Result Line LineFault

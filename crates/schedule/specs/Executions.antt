@@ -1,6 +1,7 @@
 -- What an execution of the model reports, and the run of a schedule on a world as such an execution
 -- (the specification's Run).
 use Rattle.std.specs.Prelude.{◌≡◌, ℕ, ◌-◌, ◌<◌, ◌⊎◌, List, [], ◌∷◌, ◌++◌, All, length, map, take, Option, Some, None}
+use Rattle.std.specs.List.{range_with_len}
 use Rattle.rmecore.specs.declared.refusal.Refusal.{Refusal}
 use Rattle.redomail.specs.declared.layout.Layout.{Layout}
 use Rattle.rmeworld.specs.CallWalk.{answer_to}
@@ -14,7 +15,7 @@ use Rattle.rmeworld.specs.WorldState.{WorldState}
 use Rattle.rmeworld.specs.declared.answer.Answer.{Answer}
 use Rattle.rmeworld.specs.declared.image.Image.{Image}
 use Rattle.schedule.specs.declared.lines.line.Line.{Line}
-use Rattle.schedule.specs.declared.lines.line.Line.TheVariants.{Start, Step, Crash}
+use Rattle.schedule.specs.declared.lines.line.Line.TheVariants.{Start, Step, Crash, CrashAll}
 use Rattle.schedule.specs.Runs.{LockReport, Did, Answered, answer_reports, Part, deeds_of}
 
 -- where a world begins: new, with all words 0, or made of an image, with its words and every process crashed
@@ -40,12 +41,13 @@ IsAccessOf p e = ⊥
 abbrev pub EndsWithAnswer : Layout → ℕ → ℕ → GlobalState → List WorldEvent → Type 0
 EndsWithAnswer l limit p w es = (answer : Answer) × ((before : List LockReport) × (reports_in l limit w es ≡ before ++ Answered p answer ∷ []))
 
--- the events of one line: one start of the call, one crash, or as many steps of the process as the line says. They are fewer
--- only where the last one answers the call
+-- the events of one line: one start of the call, one crash, a crash of each process in a row, or as many steps of the process
+-- as the line says. They are fewer only where the last one answers the call
 abbrev pub IsLinePlayed : Layout → ℕ → GlobalState → Line → List WorldEvent → Type 0
 IsLinePlayed l limit w (Start p call) es = es ≡ Begins p call ∷ []
 IsLinePlayed l limit w (Step p n) es = All (IsAccessOf p) es × ((length es ≡ n) ⊎ ((length es < n) × EndsWithAnswer l limit p w es))
 IsLinePlayed l limit w (Crash p) es = es ≡ Falls p ∷ []
+IsLinePlayed l limit w CrashAll es = es ≡ map Falls (range_with_len 0 l.procs)
 
 -- the events are those of the lines, line by line
 abbrev pub ArePlayed : Layout → ℕ → GlobalState → List Line → List WorldEvent → Type 0

@@ -3,7 +3,7 @@
 use Rattle.std.specs.Prelude.{ℕ, zero, suc, ◌+◌, Bool, true, false, List, [], ◌∷◌, ◌++◌, Option, Some, None, is_some, if◌then◌else◌}
 use Rattle.schedule.specs.Transitions.{RunEvent, Took, Fell, Transitions}
 use Rattle.schedule.specs.declared.lines.line.Line.{Line}
-use Rattle.schedule.specs.declared.lines.line.Line.TheVariants.{Start, Step, Crash}
+use Rattle.schedule.specs.declared.lines.line.Line.TheVariants.{Start, Step, Crash, CrashAll}
 
 -- a part of a run: what it reports, the state that it leaves, and its refusal
 pub record Fragment (X S R : Type 0) : Type 0 where
@@ -45,6 +45,14 @@ module _ {S T C R X : Type 0} (m : Transitions S T C R) (report : RunEvent T C �
       let more : List X × S = if m.ends step then ([], m.stepped s p) else steps p n (m.stepped s p) in
       (report (Took p step) ++ more.0, more.1))
 
+  -- crashes of p, p + 1, .., at most n, as long as there is such a process: only the crash of one that is not there is refused
+  unfoldable pub crashes_in_a_row : ℕ → ℕ → S → List X × S
+  crashes_in_a_row p zero s = ([], s)
+  crashes_in_a_row p (suc n) s =
+      if is_some (m.crash_refusal s p) then ([], s)
+      else (let more : List X × S = crashes_in_a_row (p + 1) n (m.crashed s p) in
+      (report (Fell p (m.crash s p)) ++ more.0, more.1))
+
 module _ {S T C R : Type 0} (m : Transitions S T C R) where
   -- the refusal of one of at most n steps of p, until its call is answered
   abbrev pub refusal_in : ℕ → ℕ → S → Option R
@@ -67,11 +75,20 @@ module _ {S T C R X : Type 0} (m : Transitions S T C R) (report : RunEvent T C �
   abbrev pub crash_line : ℕ → S → Fragment X S R
   crash_line p s = unless (m.crash_refusal s p) s (report (Fell p (m.crash s p))) (m.crashed s p)
 
+  -- crashes of p and of the processes after it, at most n
+  abbrev pub later_crashes : ℕ → ℕ → S → Fragment X S R
+  later_crashes p n s = record { reports = (crashes_in_a_row m report p n s).0; left = (crashes_in_a_row m report p n s).1; refused = None }
+
+  -- a crash of every process. No world has more than 64
+  abbrev pub crash_all_line : S → Fragment X S R
+  crash_all_line s = later_crashes 0 64 s
+
   -- one line, by what steps report and leave
   abbrev pub line_by : (ℕ → ℕ → S → List X × S) → S → Line → Fragment X S R
   line_by all s (Start p call) = unless (m.start_refusal s p call) s [] (m.started s p call)
   line_by all s (Step p n) = steps_line_by p n s (all p n s)
   line_by all s (Crash p) = crash_line p s
+  line_by all s CrashAll = crash_all_line s
 
   abbrev pub line_on : S → Line → Fragment X S R
   line_on s line = line_by (steps m report) s line

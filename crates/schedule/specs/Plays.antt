@@ -45,6 +45,12 @@ IsStopOf m e (Refused refusal) = (refusal ≡ e) × (e ≡ m.out_of_memory → �
 IsStopOf m e OutOfMemory = e ≡ m.out_of_memory
 IsStopOf m e (Stopped stop) = ⊥
 
+-- how the crashes of all processes end where one is not taken: there is no such process, or no memory
+abbrev pub IsLastCrash : {S T C R Stop A : Type 0} → Transitions S T C R → R → Result A (PlayStop R Stop) → Type 0
+IsLastCrash m e (Ok x) = e ≡ m.out_of_memory → ⊥
+IsLastCrash m e (Err OutOfMemory) = e ≡ m.out_of_memory
+IsLastCrash m e (Err stop) = ⊥
+
 -- how the steps of a line end where one after the first is not taken
 abbrev pub IsLateEnd : {S T C R Stop A : Type 0} → Transitions S T C R → R → Result A (PlayStop R Stop) → Type 0
 IsLateEnd m e (Ok x) = (m.refuses_late ≡ false) × (e ≡ m.out_of_memory → ⊥)

@@ -1,6 +1,6 @@
 -- The run of a schedule on a machine of the lock: what it reports, the state that it leaves, and the line that is refused
 -- (the ordered run of the specification's Report).
-use Rattle.std.specs.Prelude.{ℕ, false, not, ◌&&◌, List, [], ◌∷◌, ◌++◌, Option, Some, None, is_some}
+use Rattle.std.specs.Prelude.{◌≡◌, ℕ, false, not, ◌&&◌, List, [], ◌∷◌, ◌++◌, Option, Some, None, is_some}
 use Rattle.rmecore.specs.declared.refusal.Refusal.{Refusal}
 use Rattle.rmecore.specs.declared.refusal.Refusal.TheVariants.{OutOfMemory}
 use Rattle.redomail.specs.declared.deed.Deed.{Deed}
@@ -83,3 +83,10 @@ module _ {S : Type 0} (b : Behaviour S) where
   -- the lines from number k on
   unfoldable pub run_on : ℕ → S → List Line → Part S (ℕ × Refusal)
   run_on k s lines = run_by line_on k s lines
+
+  -- a line is the same as these lines: it reports and leaves what they do, and neither is refused
+  pub record IsSameAsLines (s : S) (line : Line) (lines : List Line) : Type 0 where
+    pub reports : (line_on s line).reports ≡ (run_on 2 s lines).reports
+    pub left : (line_on s line).left ≡ (run_on 2 s lines).left
+    pub accepted : (line_on s line).refused ≡ None
+    pub all_accepted : (run_on 2 s lines).refused ≡ None

@@ -1,14 +1,14 @@
 -- The verdict on a list of deeds: the first that is not allowed, with its number (the specification's Trace).
 use Rattle.std.specs.Prelude.{ℕ, List, [], ◌∷◌, Result, Ok, Err}
 use Rattle.rmecore.specs.declared.fault.Fault.{Fault}
-use Rattle.rmecore.specs.declared.fault.Fault.TheVariants.{OutOfPlace, TwoInside, NotReentered, Overtaken, NotInside, MailOrder, AfterClose, LongExit, LongRecovery, LongDoorway}
+use Rattle.rmecore.specs.declared.fault.Fault.TheVariants.{OutOfPlace, TwoInside, NotReentered, Overtaken, NotInside, MailOrder, AfterClose, LongExit, LongRecovery, LongDoorway, BrokenClaim}
 use Rattle.redomail.specs.declared.deed.Deed.{Deed}
 use Rattle.judge.specs.Table.{State, state_after_deed}
 use Rattle.rmecore.specs.Simulated.{one_more}
 use Rattle.schedule.specs.declared.replays.verdict.Verdict.{Verdict}
 use Rattle.schedule.specs.declared.replays.verdict.Verdict.TheVariants.{Fine, Against}
 
--- the number of a fault, from 1 to 10. The last three are of own steps, and no judge's
+-- the number of a fault, from 1 to 11. The last four are of what texts promise beside, and no judge's
 abbrev pub number_of_fault : Fault → ℕ
 number_of_fault OutOfPlace = 1
 number_of_fault TwoInside = 2
@@ -20,6 +20,7 @@ number_of_fault AfterClose = 7
 number_of_fault LongExit = 8
 number_of_fault LongRecovery = 9
 number_of_fault LongDoorway = 10
+number_of_fault BrokenClaim = 11
 
 -- the verdict where deed k is refused, or the rest after it
 abbrev pub verdict_at : ℕ → Result State Fault → (State → Verdict) → Verdict

@@ -1,6 +1,6 @@
 -- What a hunt finds goes wrong.
-use Rattle.std.proofs.Common.{◌≡◌, ℕ, zero, suc, ◌+◌, Bool, true, false, List, [], ◌∷◌, ◌++◌, Option, Some, None, is_some, Result, Ok, Err, refl, sym, ap, ◌∙◌, subst, arith}
-use Rattle.std.specs.List.{AllByRecursion}
+use Rattle.std.proofs.Common.{◌≡◌, ℕ, zero, suc, ◌+◌, ◌<◌, ◌≤◌, nat_lt, lt-ltb, le-ltb, Bool, true, false, List, [], ◌∷◌, ◌++◌, map, Option, Some, None, is_some, Result, Ok, Err, refl, sym, ap, ◌∙◌, subst, arith}
+use Rattle.std.specs.List.{AllByRecursion, range_with_len}
 use Rattle.rmecore.specs.declared.fault.Fault.{Fault}
 use Rattle.rmecore.specs.Simulated.{one_more}
 use Rattle.redomail.specs.declared.deed.Deed.{Deed}
@@ -11,18 +11,19 @@ use Rattle.rmeworld.specs.declared.call.Call.{Call}
 use Rattle.rmeworld.specs.Replayed.{list_of}
 use Rattle.rmeworld.specs.WorldState.{new_refusal}
 use Rattle.schedule.specs.declared.lines.line.Line.{Line}
-use Rattle.schedule.specs.declared.lines.line.Line.TheVariants.{Start, Step, Crash}
+use Rattle.schedule.specs.declared.lines.line.Line.TheVariants.{Start, Step, Crash, CrashAll}
 use Rattle.schedule.specs.declared.replays.verdict.Verdict.TheVariants.{Against}
 use Rattle.schedule.specs.Commands.{IsLine}
-use Rattle.schedule.specs.Runs.{LockReport, Did, deeds_of, did, reports_of, steps, line_on, run_on}
+use Rattle.schedule.specs.Fragments.{crashes_in_a_row}
+use Rattle.schedule.specs.Runs.{LockReport, Did, deeds_of, did, reports_by, reports_of, transitions_of, steps, line_on, run_on}
 use Rattle.rmeworld.specs.Behaviours.{Behaviour}
 use Rattle.schedule.specs.Schedules.{Scheduled, IsScheduled}
 use Rattle.schedule.specs.Verdicts.{number_of_fault, verdict_at, verdict_from, verdict_on}
 use Rattle.schedule.specs.Wholes.{layout_of}
 use Rattle.schedule.proofs.Playing.{deeds_append, deeds_reported}
 use Rattle.crashlab.specs.declared.variants.variant.Variant.{Variant}
-use Rattle.crashlab.specs.hunts.Hunts.{first_world, is_answered, after_steps, after_line, deeds_of_steps, deeds_of_line, deeds_of_lines, Unless, MaySteps, MayLine, MayLines, IsFound}
-use Rattle.crashlab.specs.variants.VariantWorlds.{VariantState, new_world, variant_step_report, variant_after_step, variant_behaviour}
+use Rattle.crashlab.specs.hunts.Hunts.{first_world, is_answered, after_steps, after_crashes, after_line, deeds_of_steps, deeds_of_line, deeds_of_lines, Unless, MaySteps, MayLine, MayLines, IsFound}
+use Rattle.crashlab.specs.variants.VariantWorlds.{VariantState, new_world, variant_step_report, variant_after_step, variant_after_crash, crash_deed, variant_behaviour}
 use Rattle.crashlab.specs.minimization.Shrunk.{variant_run, at_header, GoesWrong}
 
 -- ---- on any machine
@@ -49,6 +50,11 @@ module _ {S : Type 0} (b : Behaviour S) where
   crash_line : (s : S) (p : ℕ) → b.crash_refusal s p ≡ None → line_on b s (Crash p) ≡ record { reports = Did (b.crash_deed s p) ∷ []; left = b.crashed s p; refused = None }
   unfolding line_on
   crash_line s p may = rw may refl
+
+  crash_all_line : (s : S) → line_on b s CrashAll
+      ≡ record { reports = (crashes_in_a_row (transitions_of b) reports_by 0 64 s).0; left = (crashes_in_a_row (transitions_of b) reports_by 0 64 s).1; refused = None }
+  unfolding line_on
+  crash_all_line s = refl
 
   first_line : (k : ℕ) (s : S) (line : Line) (lines : List Line) → (line_on b s line).refused ≡ None
       → run_on b k s (line ∷ lines) ≡ record {
@@ -97,6 +103,19 @@ unfolding steps
 steps_are p zero s may = record { deeds = refl; left = refl }
 steps_are p (suc n) s may = steps_more p n s (is_answered s p) refl may (λ going. steps_are p n (variant_after_step s p) (unless_not (is_answered s p) (MaySteps (variant_after_step s p) p n) going may.1))
 
+-- the crashes of p and of the processes after it, of which there are n
+crashes_are : (n p k : ℕ) (s : VariantState) → n + p ≡ s.layout.procs → n ≤ k
+    → (deeds_of (crashes_in_a_row (transitions_of variant_behaviour) reports_by p k s).0 ≡ map crash_deed (range_with_len p n))
+    × ((crashes_in_a_row (transitions_of variant_behaviour) reports_by p k s).1 ≡ after_crashes s p n)
+unfolding crashes_in_a_row
+crashes_are zero p zero s count few = (refl, refl)
+crashes_are zero p (suc k) s count few = let gone : nat_lt p s.layout.procs ≡ false = le-ltb p s.layout.procs (omega (arith, count)) in rw gone (refl, refl)
+crashes_are (suc n) p zero s count few = absurd (omega (arith, few))
+crashes_are (suc n) p (suc k) s count few =
+    let there : nat_lt p s.layout.procs ≡ true = lt-ltb p s.layout.procs (omega (arith, count)) in
+    let rest = crashes_are n (p + 1) k (variant_after_crash s p) (omega (arith, count)) (omega (arith, few)) in
+    rw there (ap (λ ds. crash_deed p ∷ ds) rest.0, rest.1)
+
 record IsPart (s : VariantState) (line : Line) : Type 0 where
   accepted : (line_on variant_behaviour s line).refused ≡ None
   deeds : deeds_of (line_on variant_behaviour s line).reports ≡ deeds_of_line s line
@@ -114,6 +133,10 @@ line_is width s (Step p (suc n)) is may =
 line_is width s (Crash p) is may =
     let e = crash_line variant_behaviour s p may in
     record { accepted = ap (λ x. x.refused) e; deeds = ap (λ x. deeds_of x.reports) e; left = ap (λ x. x.left) e }
+line_is width s CrashAll is may =
+    let e = crash_all_line variant_behaviour s in
+    let all = crashes_are s.layout.procs 0 64 s (omega arith) may in
+    record { accepted = ap (λ x. x.refused) e; deeds = ap (λ x. deeds_of x.reports) e ∙ all.0; left = ap (λ x. x.left) e ∙ all.1 }
 
 record IsRun (k : ℕ) (s : VariantState) (lines : List Line) : Type 0 where
   accepted : (run_on variant_behaviour k s lines).refused ≡ None

@@ -1,13 +1,14 @@
 -- One more line of a hunt.
-use Rattle.std.proofs.Common.{◌≡◌, ℕ, zero, suc, Bool, if◌then◌else◌, true, false, List, [], ◌∷◌, ◌++◌, Option, Some, None, Result, Ok, Err, IfSome, is_err, MatchResult, refl, sym, ap, ◌∙◌, subst, append-nil, append_assoc}
+use Rattle.std.proofs.Common.{◌≡◌, ℕ, zero, suc, ◌+◌, ◌≤◌, nat_lt, lt-ltb, Bool, if◌then◌else◌, true, false, List, [], ◌∷◌, ◌++◌, map, Option, Some, None, Result, Ok, Err, IfSome, is_err, MatchResult, refl, sym, ap, ◌∙◌, subst, append-nil, append_assoc, arith}
+use Rattle.std.specs.List.{range_with_len}
 use Rattle.crashlab.proofs.Common.{cond_both, Deed, StandsAfter, empty_state, Call, list_of, Start, Scheduled, On, Variant, EndsMove, IsDeedGiven, with_line, first_world, deeds_of_lines, IsPlayed}
 use Rattle.crashlab.proofs.Common.{Right, VariantState, advance_refusal, start_refusal, variant_step_report, variant_after_step, crash_deed, variant_after_crash}
 use Rattle.rmecore.specs.declared.fault.Fault.{Fault}
 use Rattle.judge.specs.Legal.{judged_all}
 use Rattle.judge.specs.Kept.{Kept}
 use Rattle.schedule.specs.declared.lines.line.Line.{Line}
-use Rattle.schedule.specs.declared.lines.line.Line.TheVariants.{Step, Crash}
-use Rattle.crashlab.specs.hunts.Hunts.{hunt_layout, is_answered, after_steps, after_line, after_lines, deeds_of_steps, deeds_of_line, Unless, MaySteps, MayLine, MayLines, IsOfHunt, IsFound, IsOneMove, EndsAtRefusal}
+use Rattle.schedule.specs.declared.lines.line.Line.TheVariants.{Step, Crash, CrashAll}
+use Rattle.crashlab.specs.hunts.Hunts.{hunt_layout, is_answered, after_steps, after_crashes, after_line, after_lines, deeds_of_steps, deeds_of_line, Unless, MaySteps, MayLine, MayLines, IsOfHunt, IsFound, IsOneMove, EndsAtRefusal}
 use Rattle.crashlab.specs.declared.variants.judge_feed.MoveOutcome.{MoveOutcome}
 use Rattle.crashlab.specs.declared.variants.judge_feed.MoveOutcome.TheVariants.{Caught}
 use Rattle.crashlab.specs.hunts.Found.{IsCaught}
@@ -95,10 +96,20 @@ steps_lock l s h p (suc k) lock may =
     by true one may on = subst (λ ds. IsLock l (variant_after_step s p) (h ++ ds)) (sym (append-nil (list_of (variant_step_report s p).deed))) one
     by false one may on = subst (IsLock l (after_steps (variant_after_step s p) p k)) (append_assoc h (list_of (variant_step_report s p).deed) (deeds_of_steps (variant_after_step s p) p k)) (on may)
 
+crashes_lock : (l : Layout) (s : VariantState) (h : List Deed) (p n : ℕ) → IsLock l s h → p + n ≤ s.layout.procs → IsLock l (after_crashes s p n) (h ++ map crash_deed (range_with_len p n))
+crashes_lock l s h p zero lock low = subst (IsLock l s) (sym (append-nil h)) lock
+crashes_lock l s h p (suc n) lock low =
+    let there : nat_lt p s.layout.procs ≡ true = lt-ltb p s.layout.procs (omega (arith, low)) in
+    let may : crash_refusal s p ≡ None = rw there refl in
+    let one = lock_crashed l s h p lock may in
+    subst (IsLock l (after_crashes (variant_after_crash s p) (p + 1) n)) (append_assoc h (crash_deed p ∷ []) (map crash_deed (range_with_len (p + 1) n)))
+    (crashes_lock l (variant_after_crash s p) (h ++ crash_deed p ∷ []) (p + 1) n one (omega (arith, low)))
+
 line_lock : (l : Layout) (s : VariantState) (h : List Deed) (line : Line) → IsLock l s h → MayLine s line → IsLock l (after_line s line) (h ++ deeds_of_line s line)
 line_lock l s h (Start p call) lock may = subst (IsLock l (variant_after_start s p call)) (sym (append-nil h)) (lock_started l s h p lock call may)
 line_lock l s h (Step p k) lock may = steps_lock l s h p k lock may
 line_lock l s h (Crash p) lock may = lock_crashed l s h p lock may
+line_lock l s h CrashAll lock may = crashes_lock l s h 0 s.layout.procs lock (omega arith)
 
 lines_lock : (l : Layout) (s : VariantState) (h : List Deed) (lines : List Line) → IsLock l s h → MayLines s lines → IsLock l (after_lines s lines) (h ++ deeds_of_lines s lines)
 lines_lock l s h [] lock may = subst (IsLock l s) (sym (append-nil h)) lock

@@ -1,5 +1,6 @@
 -- What a hunt finds: a schedule whose deeds, on a new world of the variant, are legal but for the last.
-use Rattle.std.specs.Prelude.{◌≡◌, ℕ, zero, suc, Bool, true, false, if◌then◌else◌, List, [], ◌∷◌, ◌++◌, None, is_some, Err}
+use Rattle.std.specs.Prelude.{◌≡◌, ℕ, zero, suc, ◌+◌, ◌≤◌, Bool, true, false, if◌then◌else◌, List, [], ◌∷◌, ◌++◌, map, None, is_some, Err}
+use Rattle.std.specs.List.{range_with_len}
 use Rattle.rmecore.specs.declared.fault.Fault.{Fault}
 use Rattle.redomail.specs.declared.deed.Deed.{Deed}
 use Rattle.redomail.specs.declared.layout.Layout.{Layout}
@@ -9,7 +10,7 @@ use Rattle.judge.specs.Kept.{Kept}
 use Rattle.judge.specs.Stands.{StandsAfter}
 use Rattle.rmeworld.specs.Replayed.{list_of}
 use Rattle.schedule.specs.declared.lines.line.Line.{Line}
-use Rattle.schedule.specs.declared.lines.line.Line.TheVariants.{Start, Step, Crash}
+use Rattle.schedule.specs.declared.lines.line.Line.TheVariants.{Start, Step, Crash, CrashAll}
 use Rattle.schedule.specs.Schedules.{Scheduled}
 use Rattle.crashlab.specs.declared.variants.variant.Variant.{Variant}
 use Rattle.crashlab.specs.variants.VariantWorlds.{VariantState, new_world, start_refusal, variant_after_start, advance_refusal, variant_step_report, variant_after_step, crash_refusal, crash_deed, variant_after_crash}
@@ -31,11 +32,17 @@ abbrev pub after_steps : VariantState → ℕ → ℕ → VariantState
 after_steps s p zero = s
 after_steps s p (suc k) = if is_answered s p then variant_after_step s p else after_steps (variant_after_step s p) p k
 
+-- the world after crashes of p and of the n - 1 processes after it
+abbrev pub after_crashes : VariantState → ℕ → ℕ → VariantState
+after_crashes s p zero = s
+after_crashes s p (suc n) = after_crashes (variant_after_crash s p) (p + 1) n
+
 -- the world after a line
 abbrev pub after_line : VariantState → Line → VariantState
 after_line s (Start p call) = variant_after_start s p call
 after_line s (Step p k) = after_steps s p k
 after_line s (Crash p) = variant_after_crash s p
+after_line s CrashAll = after_crashes s 0 s.layout.procs
 
 -- the deeds of a line
 abbrev pub deeds_of_steps : VariantState → ℕ → ℕ → List Deed
@@ -47,6 +54,7 @@ abbrev pub deeds_of_line : VariantState → Line → List Deed
 deeds_of_line s (Start p call) = []
 deeds_of_line s (Step p k) = deeds_of_steps s p k
 deeds_of_line s (Crash p) = crash_deed p ∷ []
+deeds_of_line s CrashAll = map crash_deed (range_with_len 0 s.layout.procs)
 
 -- nothing of a line is refused
 abbrev pub Unless : Bool → Type 0 → Type 0
@@ -58,11 +66,12 @@ abbrev pub MaySteps : VariantState → ℕ → ℕ → Type 0
 MaySteps s p zero = Unit {0}
 MaySteps s p (suc k) = (advance_refusal s p ≡ None) × Unless (is_answered s p) (MaySteps (variant_after_step s p) p k)
 
--- nothing of a line is refused
+-- nothing of a line is refused. A crash of all never is; a world has at most 64 processes
 abbrev pub MayLine : VariantState → Line → Type 0
 MayLine s (Start p call) = start_refusal s p call ≡ None
 MayLine s (Step p k) = MaySteps s p k
 MayLine s (Crash p) = crash_refusal s p ≡ None
+MayLine s CrashAll = s.layout.procs ≤ 64
 
 -- the same for a list of lines
 abbrev pub after_lines : VariantState → List Line → VariantState
@@ -102,6 +111,7 @@ abbrev pub IsOneMove : Line → Type 0
 IsOneMove (Start p call) = Unit {0}
 IsOneMove (Step p k) = k ≡ 1
 IsOneMove (Crash p) = Unit {0}
+IsOneMove CrashAll = Unit {0}
 
 -- the last line is one move, and the deeds of the lines before it are legal: so the deed that is refused is that of the last
 -- line, and nothing follows it

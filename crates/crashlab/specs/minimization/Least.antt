@@ -2,7 +2,7 @@
 -- some number.
 use Rattle.std.specs.Prelude.{◌≡◌, ℕ, ◌+◌, ◌<◌, ◌≤◌, List, [], ◌∷◌, ◌++◌, take, drop, length, slice_get, Some}
 use Rattle.schedule.specs.declared.lines.line.Line.{Line}
-use Rattle.schedule.specs.declared.lines.line.Line.TheVariants.{Start, Step, Crash}
+use Rattle.schedule.specs.declared.lines.line.Line.TheVariants.{Start, Step, Crash, CrashAll}
 use Rattle.schedule.specs.Schedules.{Scheduled, head_of}
 use Rattle.crashlab.specs.minimization.MadeOf.{IsMadeOf}
 
@@ -36,6 +36,7 @@ abbrev pub steps_of : Line → ℕ
 steps_of (Start p call) = 0
 steps_of (Step p n) = n
 steps_of (Crash p) = 0
+steps_of CrashAll = 0
 
 -- the number of steps that lines ask for
 abbrev pub steps_asked : List Line → ℕ

@@ -1,7 +1,7 @@
 //! A large change of a schedule.
 
-ghost use Rattle.std.specs.Prelude.{◌≡◌};
-ghost use Rattle.crashlab.specs.minimization.MadeOf.{process_in};
+ghost use Rattle.std.specs.Prelude.{◌≡◌, IfSome, IsTrue};
+ghost use Rattle.crashlab.specs.minimization.MadeOf.{is_line_of as concerns, process_in};
 
 use schedule::{Count, Line};
 
@@ -33,12 +33,24 @@ pub enum Removal {
     },
 }
 
-/// The process of a line.
-pub fn process_of(line: &Line) -> u64
+/// The process of a line. None where it is one of all processes.
+pub fn process_of(line: &Line) -> Option<u64>
     ensures { result ≡ process_in line.now }
 {
     match *line {
-        Line::Start(p, _) | Line::Step(p, _) | Line::Crash(p) => p,
+        Line::Start(p, _) | Line::Step(p, _) | Line::Crash(p) => Some(p),
+        Line::CrashAll => None,
+    }
+}
+
+/// Whether a line is one of this process. A crash of all is one of each.
+pub fn is_line_of(process: u64, line: &Line) -> bool
+    ensures line { result ≡ concerns process line.now }
+    ensures process { IsTrue result → IfSome (process_in line.now) (λ p. p ≡ process) }
+{
+    match process_of(line) {
+        Some(p) => process == p,
+        None => true,
     }
 }
 
@@ -69,7 +81,7 @@ impl Removal {
         match *self {
             Removal::LeaveOut { from, to } if from <= index && index < to => None,
             Removal::Silence { process, from, to }
-                if from <= index && index < to && process_of(line) == process => None,
+                if from <= index && index < to && process_of(line) == Some(process) => None,
             Removal::Lower { at, by } if index == at => Some(lower(line, by)),
             Removal::Gather { at, line, .. } if index == at => Some(line),
             Removal::Gather { first, second, .. } if index == first || index == second => None,

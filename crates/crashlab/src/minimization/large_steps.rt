@@ -2,7 +2,7 @@
 
 ghost use Rattle.std.specs.Prelude.{◌≡◌, ◌<◌, OnOk};
 
-use crate::minimization::change::{Removal, both, process_of};
+use crate::minimization::change::{Removal, both, is_line_of, process_of};
 use crate::minimization::oracle::Oracle;
 use crate::minimization::replaced::{copy_of, without_lines};
 use schedule::{Line, OutOfMemory, Schedule};
@@ -98,11 +98,13 @@ fn silence<O: Oracle>(
     Ok(())
 }
 
-/// The next line, from this one on, at which the process starts a call or crashes. The end where there is none.
+/// The next line, from this one on, at which the process starts a call or crashes, alone or with all. The end where there is
+/// none.
 fn next_turn(lines: &[Line], process: u64, from: usize) -> usize {
     for next in from..lines.len() {
         match lines[next] {
             Line::Start(p, _) | Line::Crash(p) if p == process => return next,
+            Line::CrashAll => return next,
             _ => {}
         }
     }
@@ -123,7 +125,9 @@ fn silence_from<O: Oracle>(
         let Some(line) = schedule.lines().get(from) else {
             return Ok(());
         };
-        let process = process_of(line);
+        let Some(process) = process_of(line) else {
+            return Ok(());
+        };
         to = next_turn(schedule.lines(), process, to.saturating_add(1));
         make(
             alloc,
@@ -149,11 +153,11 @@ fn silence_calls<O: Oracle>(
     Ok(())
 }
 
-/// The next line of the same process.
+/// The next line of the same process. None where this one is of all processes.
 fn next_of(lines: &[Line], first: usize) -> Option<usize> {
-    let process = process_of(lines.get(first)?);
+    let process = process_of(lines.get(first)?)?;
     for second in first.saturating_add(1)..lines.len() {
-        if process_of(&lines[second]) == process {
+        if is_line_of(process, &lines[second]) {
             return Some(second);
         }
     }

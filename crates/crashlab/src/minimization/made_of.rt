@@ -4,7 +4,7 @@ ghost use Rattle.std.specs.Prelude.{◌≡◌, ◌<◌, ℕ, List, ◌++◌, IfS
 ghost use Rattle.schedule.specs.declared.lines.line.Line.{Line as LineOf};
 ghost use Rattle.crashlab.specs.minimization.MadeOf.{IsSubsequence, steps_by, moves_by, moves_left, moves_of, IsMadeOf};
 
-use crate::minimization::change::process_of;
+use crate::minimization::change::is_line_of;
 use rmeworld::Call;
 use schedule::{Line, Schedule};
 
@@ -62,7 +62,7 @@ fn is_same_call(call: &Call, other: &Call) -> bool
     }
 }
 
-/// Whether two lines are the same start or the same crash.
+/// Whether two lines are the same start or the same crash, of one process or of all.
 fn is_same_move(line: &Line, other: &Line) -> bool
     ensures { IsTrue result → line.now ≡ other.now }
 {
@@ -71,6 +71,7 @@ fn is_same_move(line: &Line, other: &Line) -> bool
             p == q && is_same_call(call, other_call)
         }
         (Line::Crash(p), Line::Crash(q)) => p == q,
+        (Line::CrashAll, Line::CrashAll) => true,
         _ => false,
     }
 }
@@ -96,7 +97,7 @@ fn take<'a>(p: u64, steps: u64, lines: &'a [Line], wanted: &Line) -> Option<(u64
     ensures { IfSome result (λ left. (xs : List LineOf) → IsSubsequence xs (moves_left p left.0 left.1.now)
         → IsSubsequence (moves_by p wanted.now ++ xs) (moves_left p steps lines.now)) }
 {
-    if process_of(wanted) != p {
+    if !is_line_of(p, wanted) {
         return Some((steps, lines));
     }
     if let Line::Step(_, count) = wanted {

@@ -162,7 +162,8 @@ fn put(p: u64, text: &[u8]) -> Option<(Line, &[u8])>
 }
 
 /// Reads the first line of a text: the line, and the text after it. None for a line of steps.
-/// None also for a faulty line, or one with a number among the greatest: the caller then reads it by its words.
+/// None also for `crash all`, for a faulty line, or for one with a number among the greatest: the caller then reads it by its
+/// words.
 // Inline: one call a line.
 #[inline(always)]
 pub fn first_line(width: u64, text: &[u8]) -> Option<(Line, &[u8])>

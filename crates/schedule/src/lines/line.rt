@@ -12,4 +12,6 @@ pub enum Line {
     Step(u64, Count),
     /// A process crashes.
     Crash(u64),
+    /// Every process crashes, one after another.
+    CrashAll,
 }

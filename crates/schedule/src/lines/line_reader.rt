@@ -19,23 +19,36 @@ fn line_after(width: u64, command: Keyword, words: &mut LineWords) -> Result<Lin
     requires { (1 ≤ width) × (width ≤ 8) }
     ensures { ReadsItem (λ line. line) result (item_after (places width) line_with command words.old) }
 {
-    let p = words.number()?;
     let line = match command {
-        Keyword::Lock => Line::Start(p, Call::Lock),
-        Keyword::Unlock => Line::Start(p, Call::Unlock),
-        Keyword::Consistent => Line::Start(p, Call::Consistent),
-        Keyword::Recover => Line::Start(p, Call::Recover),
+        Keyword::Lock => Line::Start(words.number()?, Call::Lock),
+        Keyword::Unlock => Line::Start(words.number()?, Call::Unlock),
+        Keyword::Consistent => Line::Start(words.number()?, Call::Consistent),
+        Keyword::Recover => Line::Start(words.number()?, Call::Recover),
         Keyword::Append => {
+            let p = words.number()?;
             let seq = words.number()?;
             let value = words.body(width)?;
             Line::Start(p, Call::Append { seq, value })
         }
-        Keyword::Close => Line::Start(p, Call::Close),
-        Keyword::Put => Line::Start(p, Call::Put(words.number()?, words.number()?)),
-        Keyword::Get => Line::Start(p, Call::Get(words.number()?)),
-        Keyword::Withdraw => Line::Start(p, Call::Withdraw),
-        Keyword::Step => Line::Step(p, words.count()?),
-        Keyword::Crash => Line::Crash(p),
+        Keyword::Close => Line::Start(words.number()?, Call::Close),
+        Keyword::Put => {
+            let p = words.number()?;
+            Line::Start(p, Call::Put(words.number()?, words.number()?))
+        }
+        Keyword::Get => {
+            let p = words.number()?;
+            Line::Start(p, Call::Get(words.number()?))
+        }
+        Keyword::Withdraw => Line::Start(words.number()?, Call::Withdraw),
+        Keyword::Step => {
+            let p = words.number()?;
+            Line::Step(p, words.count()?)
+        }
+        Keyword::Crash if words.begins_with(b"all") => {
+            let _ = words.next();
+            Line::CrashAll
+        }
+        Keyword::Crash => Line::Crash(words.number()?),
     };
     words.end()?;
     Ok(line)
@@ -77,6 +90,7 @@ impl Item for Line {
                 fits_word(p);
                 true
             }
+            Line::CrashAll => true,
         }
     }
 }

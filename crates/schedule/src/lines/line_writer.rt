@@ -126,6 +126,7 @@ fn put_words(out: &mut Vec<u8>, line: &Line) -> Result<(), AllocError>
             Ok(())
         }
         Line::Crash(p) => put_start(out, b"crash", p),
+        Line::CrashAll => out.extend_from_slice(b"crash all"),
     }
 }
 

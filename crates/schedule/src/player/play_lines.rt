@@ -1,13 +1,14 @@
 //! Plays the lines of a schedule on a machine. A listener hears each event.
 
 ghost use Rattle.std.specs.Prelude.{IsTrue, IsFalse, ◌≡◌, ◌≤◌};
-ghost use Rattle.schedule.specs.Fragments.{crash_line, itself, later_steps, steps_line, line_on, run_on};
-ghost use Rattle.schedule.specs.Plays.{TakesUnheard, Plays, PlaysOn, IsStopOf, IsLateEnd};
+ghost use Rattle.schedule.specs.Fragments.{crash_all_line, crash_line, itself, later_steps, steps_line, line_on, run_on};
+ghost use Rattle.schedule.specs.Plays.{TakesUnheard, Plays, PlaysOn, IsStopOf, IsLastCrash, IsLateEnd};
 
 use crate::lines::line::Line;
 use crate::player::automaton::Automaton;
 use crate::player::listener::Listener;
 use crate::player::play_stop::PlayStop;
+use rmecore::simulated::MOST_PROCS;
 
 /// Takes the next step of p if the listener need not hear it, and the machine sees cheaply that it is silent. True: the step was
 /// taken. False: nothing changed.
@@ -146,6 +147,38 @@ fn take_crash<M: Automaton, L: Listener<M>>(
     Ok(())
 }
 
+/// How the crashes of all processes end where one is not taken: it has no process, or there is no memory.
+fn last_crash<M: Automaton, S>(refusal: M::Refusal) -> Result<(), PlayStop<M::Refusal, S>>
+    ensures { IsLastCrash M.transitions refusal result }
+{
+    if M::is_out_of_memory(&refusal) {
+        return Err(PlayStop::OutOfMemory);
+    }
+    Ok(())
+}
+
+/// Crashes every process, one after another. There is none whose crash is refused.
+// Apart: few lines are crashes.
+#[inline(never)]
+fn take_crashes<M: Automaton, L: Listener<M>>(
+    machine: &mut M,
+    listener: &mut L,
+) -> Result<(), PlayStop<M::Refusal, L::Stop>>
+    ensures { Plays M.transitions L.effects listener.old listener.new
+        (crash_all_line M.transitions itself machine.old) machine.new result }
+{
+    for p in 0..MOST_PROCS {
+        let said = match machine.crash_process(p) {
+            Ok(said) => said,
+            Err(refusal) => return last_crash::<M, L::Stop>(refusal),
+        };
+        if let Err(stop) = listener.hear_crash(p, &said) {
+            return Err(PlayStop::Stopped(stop));
+        }
+    }
+    Ok(())
+}
+
 /// Plays one line: the listener hears just its events, in their order, up to the one where it stops or where the machine has no
 /// memory.
 pub fn play_line<M: Automaton, L: Listener<M>>(
@@ -163,6 +196,7 @@ pub fn play_line<M: Automaton, L: Listener<M>>(
         },
         Line::Step(p, count) => take_steps(machine, listener, p, count.get()),
         Line::Crash(p) => take_crash(machine, listener, p),
+        Line::CrashAll => take_crashes(machine, listener),
     }
 }
 

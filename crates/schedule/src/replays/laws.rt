@@ -1,6 +1,7 @@
 //! Laws of the runs of schedules on worlds.
 
-ghost use Rattle.std.specs.Prelude.{◌≡◌, ℕ, List, Result, Some, None, IfOk};
+ghost use Rattle.std.specs.Prelude.{◌≡◌, ℕ, ◌≤◌, List, map, Result, Some, None, IfOk};
+ghost use Rattle.std.specs.List.{range_with_len};
 ghost use Rattle.redomail.specs.declared.layout.Layout.{Layout as LayoutOf};
 ghost use Rattle.judge.specs.Starts.{state_of};
 ghost use Rattle.judge.specs.Table.{empty_state};
@@ -9,14 +10,15 @@ ghost use Rattle.rmeworld.specs.declared.image.Image.{Image as ImageOf};
 ghost use Rattle.rmeworld.specs.ImageRules.{layout_of, IsLawfulImage};
 ghost use Rattle.rmeworld.specs.ImageStart.{IsStartOf};
 ghost use Rattle.rmeworld.specs.Replayed.{image_of, world_behaviour};
-ghost use Rattle.rmeworld.specs.WorldState.{new_world, new_refusal, image_world};
+ghost use Rattle.rmeworld.specs.WorldState.{WorldState, new_world, new_refusal, image_world};
 ghost use Rattle.schedule.specs.declared.lines.line.Line.{Line as LineOf};
+ghost use Rattle.schedule.specs.declared.lines.line.Line.TheVariants.{Crash, CrashAll};
 ghost use Rattle.schedule.specs.declared.replays.replay_fault.ReplayFault.{ReplayFault as ReplayFaultOf};
 ghost use Rattle.schedule.specs.declared.replays.verdict.Verdict.{Verdict as VerdictOf};
 ghost use Rattle.schedule.specs.declared.replays.verdict.Verdict.TheVariants.{Fine};
 ghost use Rattle.schedule.specs.Tapes.{Tape};
 ghost use Rattle.schedule.specs.Replays.{Replays};
-ghost use Rattle.schedule.specs.Runs.{deeds_of, run_on};
+ghost use Rattle.schedule.specs.Runs.{deeds_of, run_on, IsSameAsLines};
 ghost use Rattle.schedule.specs.Executions.{IsExecution};
 ghost use Rattle.schedule.specs.Verdicts.{verdict_on};
 
@@ -29,6 +31,13 @@ pub fn runs_are_executions()
         → IsExecution l limit None lines (run_on world_behaviour 2 (new_world l limit) lines) }
     ensures later { (i : ImageOf) (lines : List LineOf) → IsLawfulImage i
         → IsExecution (layout_of i) i.limit (Some i) lines (run_on world_behaviour 2 (image_world i) lines) }
+{}
+
+/// On a world the line `crash all` is a crash of each process in a row: it reports and leaves just what the lines `crash 0`,
+/// `crash 1`, .. do, one for each process. None of them is refused.
+pub fn crash_all_is_each_crash()
+    ensures { (world : WorldState) → world.layout.procs ≤ 64
+        → IsSameAsLines world_behaviour world CrashAll (map Crash (range_with_len 0 world.layout.procs)) }
 {}
 
 /// The lock theorem for replays: whatever lines are played on a new world, a new judge of its processes and its capacity

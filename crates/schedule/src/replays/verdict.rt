@@ -14,7 +14,7 @@ pub enum Verdict {
     Against { at: u64, fault: Fault },
 }
 
-/// The number of a fault in a report, from 1 to 10.
+/// The number of a fault in a report, from 1 to 11.
 pub fn fault_number(fault: Fault) -> u64
     ensures { result ≡ number_of_fault fault }
 {
@@ -29,5 +29,6 @@ pub fn fault_number(fault: Fault) -> u64
         Fault::LongExit => 8,
         Fault::LongRecovery => 9,
         Fault::LongDoorway => 10,
+        Fault::BrokenClaim => 11,
     }
 }

@@ -72,6 +72,7 @@ impl Schedule {
             Line::Start(p, call) => Line::Start(p, call),
             Line::Step(p, count) => Line::Step(p, count),
             Line::Crash(p) => Line::Crash(p),
+            Line::CrashAll => Line::CrashAll,
         };
         add(&mut self.lines, self.width, line)
     }

@@ -14,3 +14,6 @@ returns-in-Step g c = rw (c.in-Step.is, ← c.get.ensures.value) c.take_steps.en
 
 pub returns-in-Crash : goal.returns-in-Crash
 returns-in-Crash g c = rw c.in-Crash.is c.take_crash.ensures
+
+pub returns-in-CrashAll : goal.returns-in-CrashAll
+returns-in-CrashAll g c = rw c.in-CrashAll.is c.take_crashes.ensures

@@ -4,7 +4,7 @@ use std::error::Error;
 use std::fmt;
 
 /// Why a verdict is against a run. A judge refuses a deed for the first of its needs that fails; the judge table orders the needs.
-/// The last three come from no judge: they count the own steps of an algorithm's process.
+/// The last four come from no judge: three count the own steps of an algorithm's process, and one is of its state.
 #[derive(Clone, Copy, Debug, PartialEq, Eq)]
 pub enum Fault {
     /// The process is in the wrong phase for the deed, or there is no such process.
@@ -27,6 +27,8 @@ pub enum Fault {
     LongRecovery,
     /// A process takes more own steps in its doorway than the algorithm promises.
     LongDoorway,
+    /// A condition holds that the algorithm promises never to hold.
+    BrokenClaim,
 }
 
 impl fmt::Display for Fault {
@@ -45,6 +47,7 @@ impl fmt::Display for Fault {
             Fault::LongExit => "the exit takes more steps than are promised",
             Fault::LongRecovery => "the recovery takes more steps than are promised",
             Fault::LongDoorway => "the doorway takes more steps than are promised",
+            Fault::BrokenClaim => "a condition holds that is promised never to hold",
         };
         f.write_str(text)
     }

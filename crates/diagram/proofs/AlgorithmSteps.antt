@@ -1,7 +1,7 @@
 -- A run of an algorithm that is written step by step.
 use Rattle.std.proofs.Common.{◌≡◌, ℕ, ◌+◌, List, [], ◌∷◌, ◌++◌, map, Option, Some, None, Result, Ok, Err, IfOk, refl, sym, ap, ◌∙◌, subst, append-nil}
 use Rattle.diagram.proofs.Common.{Line}
-use Rattle.diagram.proofs.RemoteMarks.{marks_of_run}
+use Rattle.diagram.proofs.AlgorithmMarks.{marks_of_run}
 use Rattle.schedule.specs.Schedules.{Scheduled}
 use Rattle.schedule.specs.Tapes.{Tape}
 use Rattle.schedule.specs.declared.replays.verdict.Verdict.{Verdict}
@@ -25,7 +25,7 @@ use Rattle.diagram.specs.AlgorithmDrawings.{text_unless}
 use Rattle.diagram.specs.AlgorithmEventLists.{IsRecording, run_event}
 use Rattle.diagram.specs.AlgorithmEvents.{AlgorithmEvent, event_act, event_phase, event_process, events_on}
 use Rattle.diagram.specs.AlgorithmSteps.{IsRunText, act_members, algorithm_format_line, first_objects, kept_objects, marked_objects, objects_by_steps, objects_unless, report_member, run_outcome, step_object, step_objects, text_by_steps, text_on_new}
-use Rattle.diagram.specs.RemoteMarks.{marked_events, marks_kept, shown_marked}
+use Rattle.diagram.specs.AlgorithmMarks.{marked_events, marks_kept, shown_marked}
 use Rattle.diagram.specs.StepLines.{step_place}
 
 -- ---- the objects of events that are kept

@@ -10,7 +10,7 @@ pub use Rattle.redomail.specs.declared.deed.Deed.{Deed}
 pub use Rattle.judge.specs.Table.{State}
 pub use Rattle.rmeworld.specs.declared.image.Image.{Image}
 pub use Rattle.schedule.specs.declared.lines.line.Line.{Line}
-pub use Rattle.schedule.specs.declared.lines.line.Line.TheVariants.{Start, Step, Crash}
+pub use Rattle.schedule.specs.declared.lines.line.Line.TheVariants.{Start, Step, Crash, CrashAll}
 pub use Rattle.schedule.specs.declared.replays.replay_fault.ReplayFault.{ReplayFault}
 pub use Rattle.schedule.specs.declared.replays.verdict.Verdict.{Verdict}
 pub use Rattle.schedule.specs.RunningVerdicts.{RunningJudge, Hears, first_running_verdict, running_judge}
@@ -33,7 +33,8 @@ pub use Rattle.diagram.specs.Columns.{spaces, columns, head, heads, bars}
 pub use Rattle.diagram.specs.Drawings.{WritesText, row_spelled, rows_spelled, top_in, end_in}
 pub use Rattle.diagram.specs.Events.{DiagramEvent, reports_in}
 unfoldable pub use Rattle.diagram.specs.Events.{events_of, events_on}
-pub use Rattle.diagram.specs.Followed.{WritesEnding, FollowsRun, IsAllFollowed, row_of, row_text, phases_with, phases_after, rows_text, run_text, WritesRows}
+pub use Rattle.diagram.specs.Followed.{WritesEnding, FollowsRun, IsAllFollowed, row_of, row_text, phases_with, phases_after, rows_text, run_text}
+pub use Rattle.diagram.specs.MarkedRuns.{MarkedStepsState, marked_row_text, marked_rows_text, marked_run_text, marked_steps_after, marked_steps_with, WritesRows}
 pub use Rattle.diagram.specs.Pictures.{around, key, class_of, lifeline_tops}
 unfoldable pub use Rattle.diagram.specs.Pictures.{keys, key_name, measured, line_looks, text_looks, step_mark, lifeline}
 pub use Rattle.diagram.specs.Rows.{events_in, EndsAs, IsRunEnd, IsJudged, events_shown, silent_step, deed_of}

@@ -9,6 +9,7 @@ pub mod Drawn
 pub mod Joined
 pub mod NotEmpty
 pub mod Steps
+pub mod LockMarks
 pub mod Ended
 pub mod Lines
 pub mod Parts
@@ -19,6 +20,7 @@ pub mod LinesReported
 pub mod AlgorithmRowEffects
 pub mod AlgorithmEventLists
 pub mod RemoteMarks
+pub mod AlgorithmMarks
 pub mod AlgorithmDrawn
 pub mod AlgorithmSessions
 pub mod AlgorithmReported

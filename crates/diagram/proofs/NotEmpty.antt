@@ -1,14 +1,17 @@
 -- Texts that are not empty. Out of memory before such a text leaves some of it to write.
-use Rattle.std.proofs.Common.{◌≡◌, ℕ, ◌+◌, ◌-◌, Bool, List, [], ◌∷◌, ◌++◌, map, codes, get_or, refl}
-use Rattle.diagram.proofs.Common.{append_none, none_after, DiagramRow, LifelinePhase, Rest, End, DiagramEvent, row_of, phases_with, rows_text, run_text, row_spelled, rows_spelled, top_in, end_in, LifelineView}
+use Rattle.std.proofs.Common.{◌≡◌, ℕ, ◌+◌, ◌-◌, Bool, List, [], ◌∷◌, ◌++◌, map, codes, Option, get_or, refl}
+use Rattle.diagram.proofs.Common.{append_none, none_after, DiagramRow, LifelinePhase, Rest, End, DiagramEvent, row_of, row_spelled, rows_spelled, top_in, end_in, LifelineView}
 use Rattle.redomail.specs.declared.layout.Layout.{Layout}
 use Rattle.diagram.specs.declared.diagram_layout.DiagramLayout.{DiagramLayout}
 use Rattle.diagram.specs.declared.diagram_layout.Style.{Style}
 use Rattle.diagram.specs.declared.diagram_layout.Style.TheVariants.{Text, Svg}
 use Rattle.diagram.specs.Columns.{end_line}
 use Rattle.diagram.specs.Drawings.{row_spelled_in, spelled_from}
+use Rattle.diagram.specs.declared.remote_marks.RemoteMarks.{RemoteMarks}
 use Rattle.diagram.specs.Followed.{access_of, place_line, row_text, reports_by}
+use Rattle.diagram.specs.MarkedRuns.{MarkedStepsState, last_marks, marked_row_text, marked_rows_text, marked_run_text, marked_steps_with, steps_at_start}
 use Rattle.diagram.specs.Pictures.{around, bottom_of, class_of, far_from, group_at, group_end, head_picture, at_most_greatest, keys, last_picture, left_of, lifeline_tops, line_looks, mailbox_if, measured, paper, right_of, row_picture, text_looks, top_picture, viewed, x_of}
+use Rattle.diagram.specs.RemoteMarks.{marks_text}
 use Rattle.diagram.specs.ShownRows.{ShownRowState}
 
 pub cons_some : {A : Type 0} (x : A) (xs : List A) → x ∷ xs ≡ [] → ⊥
@@ -78,18 +81,22 @@ drawing_some mailbox d state rows end e =
 
 -- ---- a run step by step
 
-pub reported_some : (l : Layout) (phases : List LifelinePhase) (row : DiagramRow) → row_text l phases row ≡ [] → ⊥
+pub reported_some : (l : Layout) (phases : List LifelinePhase) (marks : Option RemoteMarks) (row : DiagramRow) → row_text l phases marks row ≡ [] → ⊥
 unfolding row_text place_line
-reported_some l phases row e =
+reported_some l phases marks row e =
     cons_some 10 []
-    (none_after (around (codes "at ") row.p (codes " ") ++ class_of (get_or phases row.p Rest) ++ access_of l row.p row.act) (10 ∷ [])
-    (append_none (place_line l phases row) (reports_by row.p row.act) e))
+    (none_after (around (codes "at ") row.p (codes " ") ++ class_of (get_or phases row.p Rest) ++ access_of l row.p row.act ++ marks_text marks) (10 ∷ [])
+    (append_none (place_line l phases marks row) (reports_by row.p row.act) e))
 
-pub followed_some : (l : Layout) (phases : List LifelinePhase) (events : List DiagramEvent) → (events ≡ [] → ⊥) → run_text l phases events ≡ [] → ⊥
-followed_some l phases [] some e = some refl
-followed_some l phases (x ∷ xs) some e =
-    let next = phases_with phases (row_of x) in
-    reported_some l next (row_of x) (append_none (row_text l next (row_of x)) (rows_text l next (map row_of xs)) e)
+rows_some : (l : Layout) (steps : MarkedStepsState) (events : List DiagramEvent) → (events ≡ [] → ⊥) → marked_rows_text l steps (map row_of events) ≡ [] → ⊥
+rows_some l steps [] some e = some refl
+rows_some l steps (x ∷ xs) some e =
+    let next = marked_steps_with steps (row_of x) in
+    reported_some l next.lifelines.phases (last_marks next) (row_of x)
+    (append_none (marked_row_text l next (row_of x)) (marked_rows_text l next (map row_of xs)) e)
 
-pub followed_none : (l : Layout) (phases : List LifelinePhase) (events : List DiagramEvent) → events ≡ [] → run_text l phases events ≡ []
-followed_none l phases events none = rw none refl
+pub followed_some : (l : Layout) (first : LifelinePhase) (events : List DiagramEvent) → (events ≡ [] → ⊥) → marked_run_text l first events ≡ [] → ⊥
+followed_some l first events some e = rows_some l (steps_at_start l first events) events some e
+
+pub followed_none : (l : Layout) (first : LifelinePhase) (events : List DiagramEvent) → events ≡ [] → marked_run_text l first events ≡ []
+followed_none l first events none = rw none refl

@@ -1,6 +1,6 @@
 -- The events of a run, line by line, and what they report.
 use Rattle.std.proofs.Common.{◌≡◌, ℕ, zero, suc, ◌+◌, true, is_some, List, [], ◌∷◌, ◌++◌, Option, Some, None, refl, sym, ap, ◌∙◌}
-use Rattle.diagram.proofs.Common.{flat_map-cons, flat_map-append, Refusal, Line, Start, Step, Crash, Behaviour, steps, line_on, run_on, reports_by, transitions_of, DiagramEvent, Fell, reports_in, events_of, events_on}
+use Rattle.diagram.proofs.Common.{flat_map-cons, flat_map-append, Refusal, Line, Start, Step, Crash, CrashAll, Behaviour, steps, line_on, run_on, reports_by, transitions_of, DiagramEvent, Fell, reports_in, events_of, events_on}
 use Rattle.schedule.proofs.Fragments.{line_reported, run_reported}
 use Rattle.schedule.specs.Fragments.{Fragment, fragment_after_line, unless, itself, line_on as line_by, run_on as run_by}
 use Rattle.schedule.specs.Runs.{LockReport}
@@ -74,6 +74,7 @@ module _ {S : Type 0} (b : Behaviour S) where
       by : (o : Option Refusal) → (unless o s one (b.crashed s p)).refused ≡ Some e → ((unless o s one (b.crashed s p)).reports ≡ []) × ((unless o s one (b.crashed s p)).left ≡ s)
       by None stops = absurd cc
       by (Some refused) stops = (refl, refl)
+  line_refused s CrashAll e stops = absurd cc
 
   -- ---- one line after another
 

@@ -11,11 +11,11 @@ use Rattle.diagram.specs.Semantics.{state_after_steps, steps_to_answer}
 
 -- one event is written, and the others are left
 pub seen_event : (l : Layout) (last_steps : LastStepsState) (e : DiagramEvent) (rest : List DiagramEvent) (old mid : List ℕ)
-    → mid ≡ old ++ row_text l (last_steps_with last_steps (row_of e)).phases (row_of e)
+    → mid ≡ old ++ row_text l (last_steps_with last_steps (row_of e)).phases None (row_of e)
     → mid ++ run_text l (last_steps_with last_steps (row_of e)).phases rest ≡ old ++ run_text l last_steps.phases (e ∷ rest)
 seen_event l last_steps e rest old mid is =
     ap (λ (t : List ℕ). t ++ run_text l (last_steps_with last_steps (row_of e)).phases rest) is
-    ∙ append_assoc old (row_text l (last_steps_with last_steps (row_of e)).phases (row_of e)) (run_text l (last_steps_with last_steps (row_of e)).phases rest)
+    ∙ append_assoc old (row_text l (last_steps_with last_steps (row_of e)).phases None (row_of e)) (run_text l (last_steps_with last_steps (row_of e)).phases rest)
 
 -- ---- until a call is answered
 

@@ -12,7 +12,7 @@ use Rattle.algorithms.specs.declared.algorithm.Extent.{Extent}
 use Rattle.algorithms.specs.declared.algorithm.Extent.TheVariants.{One, Each, Array, Table}
 use Rattle.algorithm_lab.specs.Reports.{line_of_report}
 use Rattle.algorithm_lab.specs.declared.run_report.TextReport.{TextReport}
-use Rattle.algorithm_lab.specs.declared.run_report.TextReport.TheVariants.{Did, Answered, Exceeded}
+use Rattle.algorithm_lab.specs.declared.run_report.TextReport.TheVariants.{Did, Answered, Exceeded, Broken}
 use Rattle.diagram.specs.declared.algorithm.row.AlgorithmAct.{AlgorithmAct}
 use Rattle.diagram.specs.declared.algorithm.row.AlgorithmAct.TheVariants.{Took, Blocked, Further, Crashed}
 use Rattle.diagram.specs.declared.algorithm.row.AlgorithmRow.{AlgorithmRow}
@@ -133,10 +133,11 @@ abbrev pub deed_report : Option TextReport → Option Deed
 deed_report (Some (Did outer)) = Some (Outer outer)
 deed_report reports = None
 
--- the line of the answer in what a row reports
+-- the line of the answer or of the breach in what a row reports
 abbrev pub answer_reported : Algorithm → Option TextReport → List ℕ
 answer_reported a (Some (Answered p answer)) = line_of_report a (Answered p answer)
 answer_reported a (Some (Exceeded p section)) = line_of_report a (Exceeded p section)
+answer_reported a (Some (Broken line)) = line_of_report a (Broken line)
 answer_reported a reports = []
 
 abbrev pub shown_in : Algorithm → AlgorithmRow → ShownRowState

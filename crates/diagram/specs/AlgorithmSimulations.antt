@@ -19,7 +19,7 @@ use Rattle.diagram.specs.declared.algorithm.row.AlgorithmAct.{AlgorithmAct}
 use Rattle.diagram.specs.declared.algorithm.row.AlgorithmAct.TheVariants.{Crashed}
 use Rattle.diagram.specs.declared.algorithm.event_list.MonitorEvent.{MonitorEvent}
 use Rattle.diagram.specs.declared.algorithm.remote_marks.MarkedEvent.{MarkedEvent}
-use Rattle.diagram.specs.declared.algorithm.remote_marks.RemoteMarks.{RemoteMarks}
+use Rattle.diagram.specs.declared.remote_marks.RemoteMarks.{RemoteMarks}
 use Rattle.diagram.specs.declared.phase.LifelinePhase.{LifelinePhase}
 use Rattle.diagram.specs.AlgorithmEventLists.{shown_event}
 use Rattle.diagram.specs.AlgorithmEvents.{AlgorithmEvent, events_of}
@@ -27,7 +27,8 @@ use Rattle.diagram.specs.AlgorithmRows.{sign_of}
 use Rattle.diagram.specs.AlgorithmStandings.{algorithm_state_text}
 use Rattle.diagram.specs.LockSimulations.{most_steps}
 use Rattle.diagram.specs.Pictures.{around, class_of}
-use Rattle.diagram.specs.RemoteMarks.{MarkedAlgorithmEvent, marked_events, marks_text, shown_marked}
+use Rattle.diagram.specs.AlgorithmMarks.{MarkedAlgorithmEvent, marked_events, shown_marked}
+use Rattle.diagram.specs.RemoteMarks.{marks_text}
 use Rattle.diagram.specs.Semantics.{Semantics, steps_to_answer}
 use Rattle.diagram.specs.Sessions.{SessionState, at_schedule}
 

@@ -18,7 +18,7 @@ use Rattle.algorithm_lab.specs.declared.run_refusal.RunRefusal.{RunRefusal}
 use Rattle.algorithm_lab.specs.declared.run_report.TextReport.{TextReport}
 use Rattle.diagram.specs.declared.algorithm.event_list.MonitorEvent.{MonitorEvent}
 use Rattle.diagram.specs.declared.algorithm.remote_marks.MarkedEvent.{MarkedEvent}
-use Rattle.diagram.specs.declared.algorithm.remote_marks.RemoteMarks.{RemoteMarks}
+use Rattle.diagram.specs.declared.remote_marks.RemoteMarks.{RemoteMarks}
 use Rattle.diagram.specs.declared.algorithm.row.AlgorithmAct.{AlgorithmAct}
 use Rattle.diagram.specs.declared.algorithm.row.AlgorithmAct.TheVariants.{Took, Blocked}
 use Rattle.diagram.specs.AlgorithmDrawings.{text_unless}
@@ -26,7 +26,8 @@ use Rattle.diagram.specs.AlgorithmEvents.{AlgorithmEvent, events_on}
 use Rattle.diagram.specs.AlgorithmRows.{word_sign}
 use Rattle.diagram.specs.AlgorithmSimulations.{run_text}
 use Rattle.diagram.specs.Pictures.{around}
-use Rattle.diagram.specs.RemoteMarks.{MarkedAlgorithmEvent, marked_events, marks_kept, marks_member, shown_marked}
+use Rattle.diagram.specs.AlgorithmMarks.{MarkedAlgorithmEvent, marked_events, marks_kept, shown_marked}
+use Rattle.diagram.specs.RemoteMarks.{marks_member}
 use Rattle.diagram.specs.StepLines.{quoted_text, step_place, verdict_object}
 
 -- the text of the run of these lines: its steps and crashes, and what follows them

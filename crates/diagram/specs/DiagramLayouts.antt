@@ -4,7 +4,7 @@ use Rattle.redomail.specs.declared.deed.Deed.{Deed}
 use Rattle.redomail.specs.declared.layout.Layout.{Layout}
 use Rattle.rmecore.specs.Simulated.{one_more}
 use Rattle.rmecore.specs.declared.fault.Fault.{Fault}
-use Rattle.rmecore.specs.declared.fault.Fault.TheVariants.{LongExit, LongRecovery, LongDoorway}
+use Rattle.rmecore.specs.declared.fault.Fault.TheVariants.{LongExit, LongRecovery, LongDoorway, BrokenClaim}
 use Rattle.schedule.specs.declared.texts.head.Head.{Head}
 use Rattle.schedule.specs.declared.replays.verdict.Verdict.{Verdict}
 use Rattle.schedule.specs.declared.replays.verdict.Verdict.TheVariants.{Fine, Against}
@@ -20,11 +20,12 @@ use Rattle.diagram.specs.ShownRows.{ShownRowState}
 abbrev pub layout_of : Head → Layout
 layout_of head = record { procs = head.procs; cap = head.cap; width = head.width }
 
--- a fault is of a deed that is refused. Else it is of own steps
+-- a fault is of a deed that is refused. Else it is of own steps, or of a claim
 abbrev pub is_of_deed : Fault → Bool
 is_of_deed LongExit = false
 is_of_deed LongRecovery = false
 is_of_deed LongDoorway = false
+is_of_deed BrokenClaim = false
 is_of_deed _ = true
 
 -- the number of the deed that a verdict is against; 0 if there is none

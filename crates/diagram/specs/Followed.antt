@@ -1,6 +1,6 @@
 -- A run written step by step: for each step or crash the phase of its process and what it reads or writes, and then what it
 -- reports; at the end the last lines of a report.
-use Rattle.std.specs.Prelude.{◌≡◌, ℕ, ◌+◌, ◌-◌, ◌^◌, min, List, [], ◌∷◌, ◌++◌, map, codes, Option, Some, None, Result, Ok, Err, OnOk, get_or}
+use Rattle.std.specs.Prelude.{◌≡◌, ℕ, ◌+◌, ◌-◌, ◌^◌, min, List, [], ◌∷◌, ◌++◌, map, codes, Option, Some, None, Result, Ok, Err, get_or}
 use Rattle.rmecore.specs.declared.refusal.Refusal.{Refusal}
 use Rattle.rmecore.specs.Refused.{number_of}
 use Rattle.judge.specs.Table.{State}
@@ -25,10 +25,11 @@ use Rattle.diagram.specs.declared.drawing.End.TheVariants.{Judged}
 use Rattle.diagram.specs.declared.drawing.End.TheVariants as ends
 use Rattle.diagram.specs.declared.phase.LifelinePhase.{LifelinePhase}
 use Rattle.diagram.specs.declared.phase.LifelinePhase.TheVariants.{Rest}
-use Rattle.diagram.specs.Drawings.{WritesText}
+use Rattle.diagram.specs.declared.remote_marks.RemoteMarks.{RemoteMarks}
 use Rattle.diagram.specs.Events.{DiagramEvent}
 use Rattle.diagram.specs.Phases.{phase_shown, with_phase}
 use Rattle.diagram.specs.Pictures.{around, class_of}
+use Rattle.diagram.specs.RemoteMarks.{marks_text}
 use Rattle.diagram.specs.Rows.{deed_of, answer_of}
 use Rattle.diagram.specs.Signs.{sign}
 
@@ -49,18 +50,18 @@ abbrev pub access_of : Layout → ℕ → RowAct → List ℕ
 access_of l p (acts.Fell deed) = []
 access_of l p act = 32 ∷ sign l p act
 
--- the phase of a row's process, and what the row reads or writes
-unfoldable pub place_line : Layout → List LifelinePhase → DiagramRow → List ℕ
-place_line l phases row =
-    around (codes "at ") row.p (codes " ") ++ class_of (get_or phases row.p Rest) ++ access_of l row.p row.act ++ 10 ∷ []
+-- the phase of a row's process, what the row reads or writes, and in which models that is remote
+unfoldable pub place_line : Layout → List LifelinePhase → Option RemoteMarks → DiagramRow → List ℕ
+place_line l phases marks row =
+    around (codes "at ") row.p (codes " ") ++ class_of (get_or phases row.p Rest) ++ access_of l row.p row.act ++ marks_text marks ++ 10 ∷ []
 
 -- what a row reports
 abbrev pub reports_by : ℕ → RowAct → List ℕ
 reports_by p act = reports_text (reports_of p (deed_of act) (answer_of act))
 
--- a row, after which the processes are in these phases
-unfoldable pub row_text : Layout → List LifelinePhase → DiagramRow → List ℕ
-row_text l phases row = place_line l phases row ++ reports_by row.p row.act
+-- a row with these marks, after which the processes are in these phases
+unfoldable pub row_text : Layout → List LifelinePhase → Option RemoteMarks → DiagramRow → List ℕ
+row_text l phases marks row = place_line l phases marks row ++ reports_by row.p row.act
 
 -- ---- a run
 
@@ -73,18 +74,14 @@ abbrev pub phases_after : List LifelinePhase → List DiagramRow → List Lifeli
 phases_after phases [] = phases
 phases_after phases (row ∷ rows) = phases_after (phases_with phases row) rows
 
--- rows, one after the other
+-- rows without marks, one after the other
 abbrev pub rows_text : Layout → List LifelinePhase → List DiagramRow → List ℕ
 rows_text l phases [] = []
-rows_text l phases (row ∷ rows) = row_text l (phases_with phases row) row ++ rows_text l (phases_with phases row) rows
+rows_text l phases (row ∷ rows) = row_text l (phases_with phases row) None row ++ rows_text l (phases_with phases row) rows
 
--- the steps and crashes of a run
+-- the steps and crashes of a run, as a session has them: without marks
 abbrev pub run_text : Layout → List LifelinePhase → List DiagramEvent → List ℕ
 run_text l phases events = rows_text l phases (map row_of events)
-
--- rows are written, and the phases after them are left; or a beginning is written, and the reason why not the rest
-abbrev pub WritesRows : {A : Type 0} → Tape → Tape → Layout → List LifelinePhase → List LifelinePhase → List DiagramRow → Result A ReplayFault → Type 0
-WritesRows before now l phases after_it rows result = WritesText before now (rows_text l phases rows) result × OnOk result (after_it ≡ phases_after phases rows)
 
 -- ---- the whole
 

@@ -11,9 +11,12 @@ pub mod Followed
 pub mod AlgorithmEvents
 pub mod AlgorithmEventLists
 pub mod RemoteMarks
+pub mod AlgorithmMarks
 pub mod AlgorithmEventEffects
 pub mod AlgorithmRows
 pub mod AlgorithmDrawings
+pub mod LockMarks
+pub mod MarkedRuns
 pub mod StepLines
 pub mod Pages
 pub mod LastSteps

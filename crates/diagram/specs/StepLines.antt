@@ -3,7 +3,6 @@
 use Rattle.std.specs.Prelude.{◌≡◌, ℕ, ◌+◌, ◌-◌, ◌^◌, min, List, [], ◌∷◌, ◌++◌, map, codes, Option, Some, None, Result, Ok, Err, OnOk, get_or, slice_set, if◌then◌else◌}
 use Rattle.std.specs.Fmt.{decimal}
 use Rattle.std.specs.List.{join_with_byte}
-use Rattle.std.proofs.Math.ListN.{replicate}
 use Rattle.rmecore.specs.declared.fault.Fault.{Fault}
 use Rattle.rmecore.specs.declared.fault.Fault.TheVariants.{Overtaken}
 use Rattle.rmecore.specs.declared.happened.Happened.{Happened}
@@ -36,11 +35,14 @@ use Rattle.diagram.specs.declared.drawing.End.{End}
 use Rattle.diagram.specs.declared.drawing.End.TheVariants.{Judged, Refused}
 use Rattle.diagram.specs.declared.phase.LifelinePhase.{LifelinePhase}
 use Rattle.diagram.specs.declared.phase.LifelinePhase.TheVariants.{Rest}
-use Rattle.diagram.specs.DiagramLayouts.{LifelineView, lifeline_state_with, layout_of}
+use Rattle.diagram.specs.declared.remote_marks.RemoteMarks.{RemoteMarks}
+use Rattle.diagram.specs.DiagramLayouts.{layout_of}
 use Rattle.diagram.specs.Drawings.{WritesText}
 use Rattle.diagram.specs.Events.{DiagramEvent}
 use Rattle.diagram.specs.Followed.{row_of}
+use Rattle.diagram.specs.MarkedRuns.{MarkedStepsState, last_marks, marked_steps_with, steps_at_start}
 use Rattle.diagram.specs.Pictures.{around, class_of}
+use Rattle.diagram.specs.RemoteMarks.{marks_member}
 use Rattle.diagram.specs.Rows.{deed_of, answer_of}
 use Rattle.diagram.specs.Signs.{name_of, stores, word_sign}
 
@@ -69,25 +71,33 @@ lock_with lock (Fell deed) = lock
 
 -- ---- the objects
 
--- what has been played so far: the lifeline state, and the lock words
+-- what has been played so far: what its steps have shown, and the lock words
 pub record PlayedState : Type 0 where
-  pub lifelines : LifelineView
+  pub steps : MarkedStepsState
   pub lock : List Own
 
 -- the same after a row
 abbrev pub played_with : PlayedState → DiagramRow → PlayedState
-played_with played row = record { lifelines = lifeline_state_with played.lifelines row; lock = lock_with played.lock row.act }
+played_with played row = record { steps = marked_steps_with played.steps row; lock = lock_with played.lock row.act }
 
--- a step or a crash: its number from 1 on, and the process's phase and all lock words after it
+-- a step or a crash: its number from 1 on, its marks, and the process's phase and all lock words after it
 pub record StepObject : Type 0 where
   pub step : ℕ
   pub row : DiagramRow
   pub phase : LifelinePhase
+  pub marks : Option RemoteMarks
   pub lock : List Own
 
 -- the object of a row, where the row has been played
 abbrev pub object_of : PlayedState → DiagramRow → StepObject
-object_of played row = record { step = played.lifelines.rows; row = row; phase = get_or played.lifelines.phases row.p Rest; lock = played.lock }
+object_of played row =
+    record {
+      step = played.steps.lifelines.rows;
+      row = row;
+      phase = get_or played.steps.lifelines.phases row.p Rest;
+      marks = last_marks played.steps;
+      lock = played.lock;
+    }
 
 -- the objects of rows, where those before them have been played
 abbrev pub objects_of : PlayedState → List DiagramRow → List StepObject
@@ -156,7 +166,7 @@ report_text p deed answer lock =
 -- the line of an object
 unfoldable pub object_line : Layout → StepObject → List ℕ
 object_line l object =
-    place_text object ++ act_text l object.row.act
+    place_text object ++ act_text l object.row.act ++ marks_member object.marks
     ++ report_text object.row.p (deed_of object.row.act) (answer_of object.row.act) object.lock
 
 -- the lines of objects
@@ -199,13 +209,13 @@ abbrev pub verdict_object : Verdict → List ℕ
 verdict_object Fine = codes "{\"verdict\":\"fine\"}\n"
 verdict_object (Against at fault) = against_text at fault
 
--- before the first step all processes are in the same phase
-abbrev pub state_before_steps : Head → LifelinePhase → Image → PlayedState
-state_before_steps head first image = record { lifelines = record { phases = replicate head.procs first; deeds = 0; rows = 0 }; lock = image.lock }
+-- before the first step of a run all processes are in the same phase
+abbrev pub state_before_steps : Head → LifelinePhase → Image → List DiagramEvent → PlayedState
+state_before_steps head first image events = record { steps = steps_at_start (layout_of head) first events; lock = image.lock }
 
 -- the objects of a run's steps and crashes
 abbrev pub objects_on : Head → LifelinePhase → Image → List DiagramEvent → List StepObject
-objects_on head first image events = objects_of (state_before_steps head first image) (map row_of events)
+objects_on head first image events = objects_of (state_before_steps head first image events) (map row_of events)
 
 -- the lines before the first step
 unfoldable pub first_lines : Image → List ℕ

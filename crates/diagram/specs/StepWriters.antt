@@ -1,5 +1,5 @@
 -- What is written of a line that is played, and what it shows of each process.
-use Rattle.std.specs.Prelude.{◌≡◌, ℕ, [], ◌++◌, Option, Result, OnOk, OnErr, IfOk, IfSome}
+use Rattle.std.specs.Prelude.{◌≡◌, ℕ, [], ◌++◌, Option, None, Result, OnOk, OnErr, IfOk, IfSome}
 use Rattle.rmeworld.specs.Behaviours.{Behaviour}
 use Rattle.schedule.specs.declared.lines.line.Line.{Line}
 use Rattle.schedule.specs.declared.texts.fault.OutOfMemory.{OutOfMemory}
@@ -19,7 +19,7 @@ pub record KeepsPlaces (before now : StepWriter) : Type 0 where
 -- an event is written, and what it shows is kept
 pub record WritesEvent (before : StepWriter) (event : DiagramEvent) (now : StepWriter) : Type 0 where
   pub same : KeepsPlaces before now
-  pub text : now.out.now.items ≡ before.out.now.items ++ row_text before.layout (last_steps_with before.last_steps.now (row_of event)).phases (row_of event)
+  pub text : now.out.now.items ≡ before.out.now.items ++ row_text before.layout (last_steps_with before.last_steps.now (row_of event)).phases None (row_of event)
   pub last_steps : now.last_steps.now ≡ last_steps_with before.last_steps.now (row_of event)
 
 abbrev pub step_effects : Effects StepWriter DiagramEvent OutOfMemory

@@ -30,12 +30,12 @@ pub struct DiagramLayout {
     pub against: u64,
 }
 
-/// Whether a fault is of a deed that is refused. Else it is of own steps.
+/// Whether a fault is of a deed that is refused. Else it is of own steps, or of a claim.
 fn is_of_deed(fault: Fault) -> bool
     ensures { result ≡ is_of_deed fault }
 {
     match fault {
-        Fault::LongExit | Fault::LongRecovery | Fault::LongDoorway => false,
+        Fault::LongExit | Fault::LongRecovery | Fault::LongDoorway | Fault::BrokenClaim => false,
         Fault::OutOfPlace
         | Fault::TwoInside
         | Fault::NotReentered

@@ -19,6 +19,7 @@ use crate::act::{DiagramRow, RowAct};
 use crate::diagram_layout::layout_of;
 use crate::drawing::{Drawing, End, draw};
 use crate::lock_words::Played;
+use crate::marked_steps::MarkedSteps;
 use crate::page_parts::put_text;
 use crate::phase::LifelinePhase;
 use crate::step_by_step::row_of;
@@ -161,10 +162,12 @@ fn write_first<W: Sink>(
 
 /// Before the first step: all processes in the same phase, and the lock words of an image.
 fn state_before_steps(alloc: Global, drawing: &Drawing, image: &Image) -> Result<Played, AllocError>
-    ensures { IfOk result (λ played. played ≡ state_before_steps drawing.now.head drawing.now.first image.now) }
+    ensures { IfOk result (λ played. played
+        ≡ state_before_steps drawing.now.head drawing.now.first image.now (events_in drawing.now.rows.items)) }
 {
+    let steps = MarkedSteps::at_start(alloc, drawing)?;
     let lock = Vec::from_slice(alloc, image.lock.as_slice())?;
-    Played::new(alloc, drawing.head.procs, drawing.first, lock)
+    Ok(Played::new(steps, lock))
 }
 
 /// Writes the lines before the first step, and those of the steps and crashes that rows show.

@@ -1,15 +1,12 @@
 //! The lock words after the rows so far.
 
-ghost use Rattle.std.specs.Prelude.{◌≡◌, IfOk, slice_set};
-ghost use Rattle.std.proofs.Math.ListN.{replicate};
+ghost use Rattle.std.specs.Prelude.{◌≡◌, slice_set};
 ghost use Rattle.diagram.specs.StepLines.{lock_after, lock_with, own_at, played_with, words_after_store};
 
 use crate::act::{DiagramRow, RowAct};
-use crate::lifeline_state::LifelineState;
-use crate::phase::LifelinePhase;
+use crate::marked_steps::MarkedSteps;
 use crate::signs::stores;
 use rmecore::{Happened, Own, Word};
-use std::alloc::{AllocError, Global};
 use std::marker::Model;
 
 /// The lock words of process j; past the list all 0.
@@ -95,10 +92,10 @@ fn take_act(lock: &mut Vec<Own>, act: &RowAct)
     }
 }
 
-/// The state of the lifelines and the lock words after the rows so far.
+/// What the steps so far have shown, and the lock words after them.
 #[derive(Drop)]
 pub struct Played {
-    lifelines: LifelineState,
+    steps: MarkedSteps,
     lock: Vec<Own>,
 }
 
@@ -107,31 +104,22 @@ impl Model for Played {
 
     ghost Value = { PlayedState };
 
-    ghost view = { λ p. record { lifelines = p.lifelines; lock = p.lock.items } };
+    ghost view = { λ p. record { steps = p.steps; lock = p.lock.items } };
 }
 
 impl Played {
-    /// Before the first row: this many processes, all in this phase, with these lock words.
-    pub fn new(
-        alloc: Global,
-        procs: u64,
-        first: LifelinePhase,
-        lock: Vec<Own>,
-    ) -> Result<Played, AllocError>
-        ensures { IfOk result (λ played. played
-            ≡ record { lifelines = record { phases = replicate procs first; deeds = 0; rows = 0 }; lock = lock.items }) }
+    /// Before the first row, with these lock words.
+    pub fn new(steps: MarkedSteps, lock: Vec<Own>) -> Played
+        ensures { result ≡ record { steps = steps; lock = lock.items } }
     {
-        Ok(Played {
-            lifelines: LifelineState::new(alloc, procs, first)?,
-            lock,
-        })
+        Played { steps, lock }
     }
 
-    /// The state of the lifelines.
-    pub fn lifelines(&self) -> &LifelineState
-        ensures { result.now ≡ self.now.lifelines }
+    /// What the steps have shown.
+    pub fn steps(&self) -> &MarkedSteps
+        ensures { result.now ≡ self.now.steps }
     {
-        &self.lifelines
+        &self.steps
     }
 
     /// The lock words.
@@ -145,7 +133,7 @@ impl Played {
     pub fn take(&mut self, row: &DiagramRow)
         ensures { self.new ≡ played_with self.old row.now }
     {
-        self.lifelines.take(row);
+        self.steps.take(row);
         take_act(&mut self.lock, &row.act);
     }
 }

@@ -134,8 +134,10 @@ function dataAfter(k) {
 function eventOf(step) {
   const own = !step.access || !isLock ? step.word : step.word.replace(/^(choosing|number|inside)\[(\d+)\]$/, (word, name, p) => p == step.process ? name : word);
   const access = !step.access ? '' : step.access === 'store' ? ' w ' + own + '=' + step.value : ' r ' + own + ' ' + step.value;
+  const models = Object.entries(step.remote || {}).filter(([, remote]) => remote).map(([model]) => ' ' + model);
+  const marks = models.length === 0 ? '' : ' remote' + models.join('');
   const reports = isLock ? [step.deed, step.answer].filter(line => line !== null) : step.report;
-  return ['at ' + step.process + ' ' + step.phase + access, ...reports].join('\n');
+  return ['at ' + step.process + ' ' + step.phase + access + marks, ...reports].join('\n');
 }
 
 // ---- what is shown

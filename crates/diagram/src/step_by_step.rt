@@ -10,17 +10,19 @@ ghost use Rattle.schedule.specs.Schedules.{head_of};
 ghost use Rattle.schedule.specs.Transitions.{Took};
 ghost use Rattle.diagram.specs.Drawings.{WritesText};
 ghost use Rattle.diagram.specs.Events.{events_on};
-ghost use Rattle.diagram.specs.Followed.{access_of, WritesEnding, run_text, FollowsRun, place_line, row_of as row_for, row_text, WritesRows, reports_by};
+ghost use Rattle.diagram.specs.Followed.{access_of, WritesEnding, FollowsRun, place_line, row_of as row_for, row_text, reports_by};
+ghost use Rattle.diagram.specs.MarkedRuns.{marked_row_text, marked_rows_text, marked_run_text, WritesRows};
 ghost use Rattle.diagram.specs.Rows.{events_in, events_shown};
 ghost use Rattle.diagram.specs.DiagramLayouts.{layout_of as layout_in};
 
 use crate::act::{DiagramRow, RowAct};
 use crate::diagram_layout::layout_of;
 use crate::drawing::{Drawing, End, draw};
-use crate::lifeline_state::LifelineState;
 use crate::lifelines::class_of;
+use crate::marked_steps::MarkedSteps;
 use crate::page_parts::{put_around, put_text};
 use crate::phase::LifelinePhase;
+use crate::remote_marks::{RemoteMarks, put_marks};
 use crate::signs::put_sign;
 use judge::Judge;
 use redomail::Layout;
@@ -70,19 +72,21 @@ fn put_access(out: &mut Vec<u8>, layout: &Layout, row: &DiagramRow) -> Result<()
     }
 }
 
-/// Writes the phase of a row's process, and what the row reads or writes.
+/// Writes the phase of a row's process, what the row reads or writes, and in which models that is remote.
 #[tactic(auto, unfolding(crate::specs::Followed::place_line))]
 fn put_place(
     out: &mut Vec<u8>,
     layout: &Layout,
     phases: &[LifelinePhase],
+    marks: Option<RemoteMarks>,
     row: &DiagramRow,
 ) -> Result<(), AllocError>
-    ensures { OnOk result (out.new.items ≡ out.old.items ++ place_line layout.now phases.now row.now) }
+    ensures { OnOk result (out.new.items ≡ out.old.items ++ place_line layout.now phases.now marks row.now) }
 {
     put_around(out, b"at ", row.p, b" ")?;
     put_text(out, class_of(phase_of(phases, row.p)))?;
     put_access(out, layout, row)?;
+    put_marks(out, marks)?;
     put_text(out, b"\n")
 }
 
@@ -99,32 +103,34 @@ fn put_reports(out: &mut Vec<u8>, row: &DiagramRow) -> Result<(), AllocError>
     Ok(())
 }
 
-/// Writes a row, and what it reports.
+/// Writes a row with its marks, and what it reports.
 #[tactic(auto, unfolding(crate::specs::Followed::row_text))]
 pub fn put_row(
     out: &mut Vec<u8>,
     layout: &Layout,
     phases: &[LifelinePhase],
+    marks: Option<RemoteMarks>,
     row: &DiagramRow,
 ) -> Result<(), AllocError>
-    ensures { OnOk result (out.new.items ≡ out.old.items ++ row_text layout.now phases.now row.now) }
+    ensures { OnOk result (out.new.items ≡ out.old.items ++ row_text layout.now phases.now marks row.now) }
 {
-    put_place(out, layout, phases, row)?;
+    put_place(out, layout, phases, marks, row)?;
     put_reports(out, row)
 }
 
-/// Writes a row to a sink. The lifeline state has taken the row.
+/// Writes a row to a sink. It has been taken.
 fn write_row<W: Sink>(
     page: &mut Vec<u8>,
     layout: &Layout,
-    lifeline_state: &LifelineState,
+    steps: &MarkedSteps,
     row: &DiagramRow,
     w: &mut W,
 ) -> Result<(), ReplayFault>
-    ensures { WritesText (W.tape w.old) (W.tape w.new) (row_text layout.now lifeline_state.now.phases row.now) result }
+    ensures { WritesText (W.tape w.old) (W.tape w.new) (marked_row_text layout.now steps.now row.now) result }
 {
     page.clear();
-    put_row(page, layout, lifeline_state.phases(), row)?;
+    let phases = steps.lifelines().phases();
+    put_row(page, layout, phases, steps.last_marks(), row)?;
     write_all(w, page)?;
     Ok(())
 }
@@ -133,17 +139,16 @@ fn write_row<W: Sink>(
 fn write_times<W: Sink>(
     page: &mut Vec<u8>,
     layout: &Layout,
-    lifeline_state: &mut LifelineState,
+    steps: &mut MarkedSteps,
     row: &DiagramRow,
     times: u64,
     w: &mut W,
 ) -> Result<(), ReplayFault>
-    ensures { WritesRows (W.tape w.old) (W.tape w.new) layout.now lifeline_state.old.phases lifeline_state.new.phases
-        (replicate times row.now) result }
+    ensures { WritesRows (W.tape w.old) (W.tape w.new) layout.now steps.old steps.new (replicate times row.now) result }
 {
     for _ in 0..times {
-        lifeline_state.take(row);
-        write_row(page, layout, lifeline_state, row, w)?;
+        steps.take(row);
+        write_row(page, layout, steps, row, w)?;
     }
     Ok(())
 }
@@ -152,35 +157,21 @@ fn write_times<W: Sink>(
 fn write_shown<W: Sink>(
     page: &mut Vec<u8>,
     layout: &Layout,
-    lifeline_state: &mut LifelineState,
+    steps: &mut MarkedSteps,
     row: &DiagramRow,
     w: &mut W,
 ) -> Result<(), ReplayFault>
-    ensures { WritesRows (W.tape w.old) (W.tape w.new) layout.now lifeline_state.old.phases lifeline_state.new.phases
+    ensures { WritesRows (W.tape w.old) (W.tape w.new) layout.now steps.old steps.new
         (map row_for (events_shown row.now.p row.now.act)) result }
 {
     let p = row.p;
     match &row.act {
         RowAct::Silent(happened, times) => {
             let act = RowAct::Silent(*happened, 1);
-            write_times(
-                page,
-                layout,
-                lifeline_state,
-                &DiagramRow { p, act },
-                *times,
-                w,
-            )
+            write_times(page, layout, steps, &DiagramRow { p, act }, *times, w)
         }
-        RowAct::Telling(stepped) => write_times(
-            page,
-            layout,
-            lifeline_state,
-            &row_of(p, stepped),
-            1,
-            w,
-        ),
-        RowAct::Fell(_) => write_times(page, layout, lifeline_state, row, 1, w),
+        RowAct::Telling(stepped) => write_times(page, layout, steps, &row_of(p, stepped), 1, w),
+        RowAct::Fell(_) => write_times(page, layout, steps, row, 1, w),
     }
 }
 
@@ -188,14 +179,15 @@ fn write_shown<W: Sink>(
 fn write_rows<W: Sink>(
     page: &mut Vec<u8>,
     layout: &Layout,
-    lifeline_state: &mut LifelineState,
+    steps: &mut MarkedSteps,
     rows: &[DiagramRow],
     w: &mut W,
 ) -> Result<(), ReplayFault>
-    ensures { WritesText (W.tape w.old) (W.tape w.new) (run_text layout.now lifeline_state.old.phases (events_in rows.now)) result }
+    ensures { WritesText (W.tape w.old) (W.tape w.new)
+        (marked_rows_text layout.now steps.old (map row_for (events_in rows.now))) result }
 {
     for row in rows {
-        write_shown(page, layout, lifeline_state, row, w)?;
+        write_shown(page, layout, steps, row, w)?;
     }
     Ok(())
 }
@@ -227,26 +219,20 @@ fn show_any(rows: &[DiagramRow]) -> bool
 /// Writes the steps and crashes of a run, from its drawing. There is one.
 fn write_some<W: Sink>(alloc: Global, drawing: &Drawing, w: &mut W) -> Result<(), ReplayFault>
     requires { events_in drawing.now.rows.items ≡ [] → ⊥ }
-    ensures { WritesText (W.tape w.old) (W.tape w.new) (run_text (layout_in drawing.now.head)
-        (replicate drawing.now.head.procs drawing.now.first) (events_in drawing.now.rows.items)) result }
+    ensures { WritesText (W.tape w.old) (W.tape w.new) (marked_run_text (layout_in drawing.now.head)
+        drawing.now.first (events_in drawing.now.rows.items)) result }
 {
     let mut page = Vec::new(alloc);
-    let mut lifeline_state = LifelineState::new(alloc, drawing.head.procs, drawing.first)?;
+    let mut steps = MarkedSteps::at_start(alloc, drawing)?;
     let layout = layout_of(drawing.head);
-    write_rows(
-        &mut page,
-        &layout,
-        &mut lifeline_state,
-        drawing.rows.as_slice(),
-        w,
-    )
+    write_rows(&mut page, &layout, &mut steps, drawing.rows.as_slice(), w)
 }
 
 /// Writes the steps and crashes of a run, from its drawing. It takes memory only where there is something to write.
 #[tactic(auto, using(crate::proofs::Written::writes_none, crate::proofs::NotEmpty::followed_none))]
 fn write_steps<W: Sink>(alloc: Global, drawing: &Drawing, w: &mut W) -> Result<(), ReplayFault>
-    ensures { WritesText (W.tape w.old) (W.tape w.new) (run_text (layout_in drawing.now.head)
-        (replicate drawing.now.head.procs drawing.now.first) (events_in drawing.now.rows.items)) result }
+    ensures { WritesText (W.tape w.old) (W.tape w.new) (marked_run_text (layout_in drawing.now.head)
+        drawing.now.first (events_in drawing.now.rows.items)) result }
 {
     if show_any(drawing.rows.as_slice()) {
         return write_some(alloc, drawing, w);
@@ -278,7 +264,8 @@ fn write_end<M: Machine, W: Sink>(
     }
 }
 
-/// Plays the lines of a schedule on a machine, before a judge, as `draw` does, and writes the run step by step.
+/// Plays the lines of a schedule on a machine, before a judge, as `draw` does, and writes the run step by step, each with the models
+/// of memory in which its access is remote.
 pub fn follow<M: Machine, W: Sink>(
     alloc: Global,
     machine: &mut M,
@@ -291,8 +278,7 @@ pub fn follow<M: Machine, W: Sink>(
     ensures follows { (start : State) → Keeps judge.old start
         → FollowsRun (W.tape w.old) (W.tape w.new) start M.behaviour.image_of
         (run_on M.behaviour 2 machine.old schedule.now.lines)
-        (run_text (layout_in (head_of schedule.now)) (replicate schedule.now.procs first)
-        (events_on M.behaviour machine.old schedule.now.lines)) result }
+        (marked_run_text (layout_in (head_of schedule.now)) first (events_on M.behaviour machine.old schedule.now.lines)) result }
     // After a verdict or a refused line the machine is as the run leaves it.
     ensures left { IsOver result → machine.new ≡ (run_on M.behaviour 2 machine.old schedule.now.lines).left }
 {

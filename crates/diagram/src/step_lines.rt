@@ -13,6 +13,7 @@ use crate::lifelines::class_of;
 use crate::lock_words::Played;
 use crate::page_parts::{put_around, put_decimal, put_text};
 use crate::phase::LifelinePhase;
+use crate::remote_marks::put_marks_member;
 use crate::signs::{name_of, put_word, stores};
 use crate::step_by_step::phase_of;
 use redomail::{Deed, Layout};
@@ -162,7 +163,7 @@ pub(crate) fn put_step_place(
 fn put_place(out: &mut Vec<u8>, played: &Played, row: &DiagramRow) -> Result<(), AllocError>
     ensures { OnOk result (out.new.items ≡ out.old.items ++ place_text (object_of played.now row.now)) }
 {
-    let lifelines = played.lifelines();
+    let lifelines = played.steps().lifelines();
     put_step_place(
         out,
         lifelines.rows(),
@@ -203,6 +204,7 @@ pub fn put_line(
 {
     put_place(out, played, row)?;
     put_act(out, layout, &row.act)?;
+    put_marks_member(out, played.steps().last_marks())?;
     put_reports(out, row.p, &row.deed(), row.answer(), played.lock())
 }
 

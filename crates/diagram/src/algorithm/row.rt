@@ -208,11 +208,12 @@ fn deed_report(reports: Option<TextReport>) -> Option<Deed>
 {
     match reports {
         Some(TextReport::Did(outer)) => Some(Deed::Outer(outer)),
-        Some(TextReport::Answered(..) | TextReport::Exceeded(..)) | None => None,
+        Some(TextReport::Answered(..) | TextReport::Exceeded(..) | TextReport::Broken(_)) | None =>
+            None,
     }
 }
 
-/// Writes the line of the answer or of the excess in what a row reports.
+/// Writes the line of the answer or of the breach in what a row reports.
 fn put_answer_report(
     out: &mut Vec<u8>,
     algorithm: &Algorithm,
@@ -231,6 +232,7 @@ fn put_answer_report(
             algorithm,
             TextReport::Exceeded(p, section),
         ),
+        Some(TextReport::Broken(line)) => put_reports(out, algorithm, TextReport::Broken(line)),
         Some(TextReport::Did(_)) | None => Ok(()),
     }
 }

@@ -7,11 +7,12 @@ ghost use Rattle.diagram.specs.AlgorithmSimulations.{access_text, event_line, ke
 ghost use Rattle.diagram.specs.AlgorithmSteps.{end_unless, IsRunText, report_by_steps, run_outcome, text_on_new};
 
 use crate::algorithm::event_list::{MonitorEvent, Recording, record_run};
-use crate::algorithm::remote_marks::{MarkedEvent, RemoteMarks, mark_events, put_marks};
+use crate::algorithm::remote_marks::{MarkedEvent, mark_events};
 use crate::algorithm::row::{AlgorithmAct, put_sign};
 use crate::lifelines::class_of;
 use crate::page_parts::{put_around, put_text};
 use crate::phase::LifelinePhase;
+use crate::remote_marks::{RemoteMarks, put_marks};
 use algorithm_lab::report::{put_all_reports, put_report_end};
 use algorithm_lab::{AlgorithmReplayFault, Monitor, ReplayText, RunRefusal};
 use algorithms::{Algorithm, AlgorithmWorld, InitializedAlgorithm};

@@ -1,6 +1,6 @@
 //! Plays a line on a machine, and writes each of its steps.
 
-ghost use Rattle.std.specs.Prelude.{◌≡◌, ◌++◌, [], IfOk, IfSome, OnOk, OnErr};
+ghost use Rattle.std.specs.Prelude.{◌≡◌, ◌++◌, [], None, IfOk, IfSome, OnOk, OnErr};
 ghost use Rattle.diagram.specs.Events.{events_of};
 ghost use Rattle.diagram.specs.Followed.{run_text, row_text};
 ghost use Rattle.diagram.specs.LastSteps.{number_refused, last_steps_after, last_steps_with, IsNumberOf};
@@ -34,11 +34,11 @@ fn put_seen(
     row: &DiagramRow,
 ) -> Result<(), OutOfMemory>
     ensures text { OnOk result (out.new.items ≡ out.old.items
-        ++ row_text layout.now (last_steps_with last_steps.old row.now).phases row.now) }
+        ++ row_text layout.now (last_steps_with last_steps.old row.now).phases None row.now) }
     ensures last_steps { OnOk result (last_steps.new ≡ last_steps_with last_steps.old row.now) }
 {
     last_steps.take(row);
-    match put_row(out, layout, last_steps.phases(), row) {
+    match put_row(out, layout, last_steps.phases(), None, row) {
         Ok(()) => Ok(()),
         Err(_) => Err(OutOfMemory),
     }

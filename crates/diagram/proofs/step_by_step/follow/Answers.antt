@@ -1,5 +1,5 @@
 use Rattle.std.proofs.Common.{◌≡◌, List, Err, ap, subst, ◌∙◌, ℕ}
-use Rattle.diagram.proofs.Common.{replicate, err_from_is_err_and, Writes, run_on, LifelinePhase, WritesText, DiagramEvent, events_on, run_text, events_in, layout_of}
+use Rattle.diagram.proofs.Common.{err_from_is_err_and, Writes, run_on, LifelinePhase, WritesText, DiagramEvent, events_on, marked_run_text, events_in, layout_of}
 use Rattle.schedule.specs.declared.texts.head.Head.{Head}
 use Rattle.schedule.specs.Schedules.{head_of}
 use Rattle.diagram.proofs.Ended.{none_followed, steps_end, steps_fail}
@@ -11,9 +11,9 @@ returns-in_default-clause-follows g c start keeps =
     let b = g.M.Machine.behaviour in
     let schedule = c.args.schedule.now in
     let events = events_on b c.args.machine.now schedule.lines in
-    let phases = replicate schedule.procs c.args.first in
+    let layout = layout_of (head_of schedule) in
     none_followed (g.W.Sink.tape c.args.w.now) start b.image_of (run_on b 2 c.args.machine.now schedule.lines)
-    (run_text (layout_of (head_of schedule)) phases events) (followed_some (layout_of (head_of schedule)) phases events c.in_default.ensures.memory)
+    (marked_run_text layout c.args.first events) (followed_some layout c.args.first events c.in_default.ensures.memory)
 
 pub returns-in_err-write_steps-clause-follows : goal.returns-in_err-write_steps-clause-follows
 returns-in_err-write_steps-clause-follows g c start keeps =
@@ -21,11 +21,11 @@ returns-in_err-write_steps-clause-follows g c start keeps =
     let schedule = c.args.schedule.now in
     let drawing = c.in-Ok.drawing in
     let reports = c.in-Ok.ensures in
-    let steps : run_text (layout_of drawing.head) (replicate drawing.head.procs drawing.first) (events_in drawing.rows.items)
-    ≡ run_text (layout_of (head_of schedule)) (replicate schedule.procs c.args.first) (events_on b c.args.machine.now schedule.lines) =
-    ap (λ (head : Head). run_text (layout_of head) (replicate head.procs drawing.first) (events_in drawing.rows.items)) reports.sizes.0
-    ∙ ap (λ (first : LifelinePhase). run_text (layout_of (head_of schedule)) (replicate schedule.procs first) (events_in drawing.rows.items)) reports.sizes.1
-    ∙ ap (λ (events : List DiagramEvent). run_text (layout_of (head_of schedule)) (replicate schedule.procs c.args.first) events) reports.events in
+    let steps : marked_run_text (layout_of drawing.head) drawing.first (events_in drawing.rows.items)
+    ≡ marked_run_text (layout_of (head_of schedule)) c.args.first (events_on b c.args.machine.now schedule.lines) =
+    ap (λ (head : Head). marked_run_text (layout_of head) drawing.first (events_in drawing.rows.items)) reports.sizes.0
+    ∙ ap (λ (first : LifelinePhase). marked_run_text (layout_of (head_of schedule)) first (events_in drawing.rows.items)) reports.sizes.1
+    ∙ ap (λ (events : List DiagramEvent). marked_run_text (layout_of (head_of schedule)) c.args.first events) reports.events in
     let t = g.W.Sink.tape c.args.w.now in
     let u = g.W.Sink.tape c.write_steps.new.w in
     let fault = c.in_err-write_steps.field-0.0 in
@@ -40,11 +40,11 @@ returns-clause-follows g c start keeps =
     let schedule = c.args.schedule.now in
     let drawing = c.in-Ok.drawing in
     let reports = c.in-Ok.ensures in
-    let steps : run_text (layout_of drawing.head) (replicate drawing.head.procs drawing.first) (events_in drawing.rows.items)
-    ≡ run_text (layout_of (head_of schedule)) (replicate schedule.procs c.args.first) (events_on b c.args.machine.now schedule.lines) =
-    ap (λ (head : Head). run_text (layout_of head) (replicate head.procs drawing.first) (events_in drawing.rows.items)) reports.sizes.0
-    ∙ ap (λ (first : LifelinePhase). run_text (layout_of (head_of schedule)) (replicate schedule.procs first) (events_in drawing.rows.items)) reports.sizes.1
-    ∙ ap (λ (events : List DiagramEvent). run_text (layout_of (head_of schedule)) (replicate schedule.procs c.args.first) events) reports.events in
+    let steps : marked_run_text (layout_of drawing.head) drawing.first (events_in drawing.rows.items)
+    ≡ marked_run_text (layout_of (head_of schedule)) c.args.first (events_on b c.args.machine.now schedule.lines) =
+    ap (λ (head : Head). marked_run_text (layout_of head) drawing.first (events_in drawing.rows.items)) reports.sizes.0
+    ∙ ap (λ (first : LifelinePhase). marked_run_text (layout_of (head_of schedule)) first (events_in drawing.rows.items)) reports.sizes.1
+    ∙ ap (λ (events : List DiagramEvent). marked_run_text (layout_of (head_of schedule)) c.args.first events) reports.events in
     let t = g.W.Sink.tape c.args.w.now in
     let u = g.W.Sink.tape c.write_steps.new.w in
     let v = g.W.Sink.tape c.write_end.new.w in

@@ -1,7 +1,7 @@
 use Rattle.std.proofs.Common.{◌++◌, List, ap, ap₂, subst, ◌∙◌}
 use Rattle.algorithms.specs.declared.remote_references.memory_event.MemoryEvent.{MemoryEvent}
 use Rattle.algorithms.specs.remote_references.CopyRows.{AreCopiesAfter}
-use Rattle.diagram.specs.RemoteMarks.{marks_of, memory_seen}
+use Rattle.diagram.specs.AlgorithmMarks.{marks_of, memory_seen}
 use Rattle.diagram.specs.declared.algorithm.remote_marks.MarkedEvent.{MarkedEvent}
 use Rattle.diagram.proofs.algorithm.remote_marks.mark_event.Goals as goal
 

@@ -3,8 +3,8 @@ use Rattle.algorithms.specs.declared.algorithm.Algorithm.{Algorithm}
 use Rattle.algorithms.specs.declared.remote_references.memory_event.MemoryEvent.{MemoryEvent}
 use Rattle.algorithms.specs.remote_references.CopyRows.{AreCopiesAfter}
 use Rattle.diagram.proofs.Common.{drop_more, length-drop, nil_from_length, take_more}
-use Rattle.diagram.proofs.RemoteMarks.{IsMarkedSoFar, marked_more, memory_more}
-use Rattle.diagram.specs.RemoteMarks.{all_memory_kept, mark_kept, marks_kept, memory_kept}
+use Rattle.diagram.proofs.AlgorithmMarks.{IsMarkedSoFar, marked_more, memory_more}
+use Rattle.diagram.specs.AlgorithmMarks.{all_memory_kept, mark_kept, marks_kept, memory_kept}
 use Rattle.diagram.specs.declared.algorithm.event_list.MonitorEvent.{MonitorEvent}
 use Rattle.diagram.specs.declared.algorithm.remote_marks.MarkedEvent.{MarkedEvent}
 use Rattle.diagram.proofs.algorithm.remote_marks.mark_events.Goals as goal

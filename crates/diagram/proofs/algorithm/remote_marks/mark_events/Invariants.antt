@@ -1,7 +1,7 @@
 use Rattle.std.proofs.Common.{length, take}
 use Rattle.algorithms.specs.remote_references.CopyRows.{AreCopiesAfter}
-use Rattle.diagram.proofs.RemoteMarks.{IsMarkedSoFar}
-use Rattle.diagram.specs.RemoteMarks.{all_memory_kept}
+use Rattle.diagram.proofs.AlgorithmMarks.{IsMarkedSoFar}
+use Rattle.diagram.specs.AlgorithmMarks.{all_memory_kept}
 use Rattle.diagram.proofs.algorithm.remote_marks.mark_events.Given as goal
 
 abbrev pub invariant-loop-event : goal.invariant-loop-event

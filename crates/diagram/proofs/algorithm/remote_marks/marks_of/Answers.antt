@@ -1,5 +1,5 @@
 use Rattle.std.proofs.Common.{sym, ◌∙◌}
-use Rattle.diagram.proofs.RemoteMarks.{marks_of_same}
+use Rattle.diagram.proofs.AlgorithmMarks.{marks_of_same}
 use Rattle.diagram.proofs.algorithm.remote_marks.marks_of.Goals as goal
 
 pub returns-in-Took : goal.returns-in-Took

@@ -1,7 +1,7 @@
 use Rattle.std.proofs.Common.{◌++◌, List, ap, sym, subst, append-nil}
 use Rattle.algorithms.specs.declared.remote_references.memory_event.MemoryEvent.{MemoryEvent}
 use Rattle.algorithms.specs.remote_references.CopyRows.{AreCopiesAfter}
-use Rattle.diagram.proofs.RemoteMarks.{memory_of_access}
+use Rattle.diagram.proofs.AlgorithmMarks.{memory_of_access}
 use Rattle.diagram.proofs.algorithm.remote_marks.note_act.Goals as goal
 
 pub returns-in-Further : goal.returns-in-Further

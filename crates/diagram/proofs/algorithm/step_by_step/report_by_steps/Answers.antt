@@ -1,9 +1,9 @@
 use Rattle.std.proofs.Common.{[], ◌++◌, ◌∙◌, List, ℕ, ap}
-use Rattle.diagram.proofs.RemoteMarks.{lines_of_run}
+use Rattle.diagram.proofs.AlgorithmMarks.{lines_of_run}
 use Rattle.diagram.proofs.AlgorithmSteps.{text_made}
 use Rattle.diagram.specs.AlgorithmSimulations.{marked_lines, run_text}
 use Rattle.diagram.specs.AlgorithmSteps.{end_unless}
-use Rattle.diagram.specs.RemoteMarks.{marks_kept}
+use Rattle.diagram.specs.AlgorithmMarks.{marks_kept}
 use Rattle.diagram.specs.declared.algorithm.event_list.MonitorEvent.{MonitorEvent}
 use Rattle.diagram.specs.declared.algorithm.remote_marks.MarkedEvent.{MarkedEvent}
 use Rattle.algorithms.specs.declared.algorithm.Algorithm.{Algorithm}

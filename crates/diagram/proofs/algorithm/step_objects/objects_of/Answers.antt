@@ -1,7 +1,7 @@
 use Rattle.std.proofs.Common.{[], ◌++◌, ◌∙◌, List, ℕ, ap}
 use Rattle.algorithms.specs.declared.algorithm.Algorithm.{Algorithm}
 use Rattle.diagram.specs.AlgorithmSteps.{algorithm_format_line, marked_objects, objects_unless}
-use Rattle.diagram.specs.RemoteMarks.{marks_kept}
+use Rattle.diagram.specs.AlgorithmMarks.{marks_kept}
 use Rattle.diagram.specs.declared.algorithm.event_list.MonitorEvent.{MonitorEvent}
 use Rattle.diagram.specs.declared.algorithm.remote_marks.MarkedEvent.{MarkedEvent}
 use Rattle.diagram.proofs.algorithm.step_objects.objects_of.Goals as goal

@@ -1,7 +1,7 @@
 use Rattle.std.proofs.Common.{ap, codes, ◌∙◌, ◌++◌}
 use Rattle.diagram.proofs.Joined.{joined, two_parts}
 use Rattle.diagram.specs.RemoteMarks.{text_if}
-use Rattle.diagram.proofs.algorithm.remote_marks.put_marks.Goals as goal
+use Rattle.diagram.proofs.remote_marks.put_marks.Goals as goal
 
 pub returns : goal.returns
 returns c =

@@ -1,5 +1,5 @@
 use Rattle.diagram.proofs.Joined.{joined, two_parts}
-use Rattle.diagram.proofs.algorithm.remote_marks.put_marks_member.Goals as goal
+use Rattle.diagram.proofs.remote_marks.put_marks_member.Goals as goal
 
 pub returns : goal.returns
 returns c =

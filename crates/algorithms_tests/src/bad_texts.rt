@@ -69,7 +69,6 @@ const BAD: &str = "\
 == may withdraw without it\nalgorithm a for 2 processes\npromises exclusion\nshared flag[procs] up to 1\nshared turn\ncall lock\n  turn := 1 may withdraw\n  done\ncall unlock\n  turn := 0 this is leave\n  done\n--\nline 6: fault 17\n\
 == never reached\nalgorithm a for 2 processes\npromises exclusion\nshared flag[procs] up to 1\nshared turn\ncall lock\n  turn := 1\n  done\n  turn := 2\n  done\ncall unlock\n  turn := 0 this is leave\n  done\n--\nline 8: fault 18\n\
 == promises in another order\nalgorithm a for 2 processes\npromises order, exclusion\n--\nline 2: fault 4\n\
-== a loop without a step\nalgorithm a for 2 processes\npromises exclusion\nshared flag[procs] up to 1\nshared turn\ncall lock\n  n := 0\n  for j in all\n    if j != me then n := n + j\n  end\n  turn := n mod 2\n  done\ncall unlock\n  turn := 0 this is leave\n  done\n--\nline 8: fault 12\n\
 == letters after a number\nalgorithm a for 2 processes\npromises exclusion\nshared flag[procs] up to 1\nshared turn\ncall lock\n  turn := 1a\n  done\ncall unlock\n  turn := 0 this is leave\n  done\n--\nline 6: fault 4\n\
 == `_` in a number\nalgorithm a for 2 processes\npromises exclusion\nshared flag[procs] up to 1\nshared turn\ncall lock\n  turn := 10_000\n  done\ncall unlock\n  turn := 0 this is leave\n  done\n--\nline 6: fault 4\n\
 == an answer with two dashes\nalgorithm a for 2 processes\npromises exclusion\nshared flag[procs] up to 1\nshared turn\ncall lock\n  turn := 1\n  done a--b\ncall unlock\n  turn := 0 this is leave\n  done\n--\nline 7: fault 4\n\

@@ -2,8 +2,8 @@
 //! what is given, and then what comes of it. Where one text is both, there is no `--`.
 
 use crate::{
-    bad_texts, costs, drawings, hostile_texts, hunts, remote_references, runs, schedules, searches,
-    sessions, shrinks, spelling, starving, stuck,
+    bad_texts, costs, drawings, hostile_texts, hunts, mean_costs, remote_references, runs,
+    schedules, searches, sessions, shrinks, spelling, starving, stuck,
 };
 use std::alloc::Global;
 use std::test::Fail;
@@ -41,6 +41,8 @@ pub enum Kind {
     Stuck,
     /// Searches for the greatest costs.
     Cost,
+    /// The costs on random schedules.
+    RandomCost,
 }
 
 /// A case: the words of its first line, what is given, and what comes of it.
@@ -100,6 +102,7 @@ fn put_outcome(
         Kind::Starving => starving::put_starving(alloc, words, text),
         Kind::Stuck => stuck::put_stuck(alloc, words, text),
         Kind::Cost => costs::put_costs(alloc, words, text),
+        Kind::RandomCost => mean_costs::put_totals(alloc, words, text),
     }
 }
 

@@ -3,7 +3,7 @@
 
 use crate::cases::{Kind, compare_cases};
 use crate::remote_references::MODELS;
-use crate::support::{number, text_named};
+use crate::support::{crashes_left, number, text_named};
 use algorithm_explorer::{
     AlgorithmCost, AlgorithmMove, CostQuestion, CostlySchedule, Unwatched, algorithm_cost,
 };
@@ -71,6 +71,13 @@ impl PassageCount {
                 self.copies.note(MemoryEvent::Crash(p));
                 self.crashed = self.crashed || p == self.process;
             }
+            AlgorithmMove::CrashAll => {
+                for p in 0..world.procs() {
+                    world.crash(p)?;
+                }
+                self.copies.note(MemoryEvent::CrashAll);
+                self.crashed = true;
+            }
         }
         Ok(())
     }
@@ -115,7 +122,7 @@ fn put_cost(
         read_algorithm(alloc, text_named(name))?,
         sizes.0,
         sizes.1,
-        Some(number(crashes)),
+        crashes_left(crashes),
         &CALLS,
         question,
         1_000_000,

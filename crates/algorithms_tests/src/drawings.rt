@@ -149,3 +149,43 @@ fn locks_are_drawn(rt: HostRuntime) -> Result<(), Fail> {
     compare_cases(rt.alloc(), Kind::Drawing, ALONE)?;
     compare_cases(rt.alloc(), Kind::Drawing, REFUSED)
 }
+
+/// One is inside, and another waits, when all crash.
+const ALL_CRASH: &str = "rme 1 procs 2 limit 2 cap 1
+lock 0
+step 0 8
+lock 1
+step 1 4
+crash all
+lock 0
+step 0 4
+";
+
+/// The same, with a crash of each.
+const EACH_CRASHES: &str = "rme 1 procs 2 limit 2 cap 1
+lock 0
+step 0 8
+lock 1
+step 1 4
+crash 0
+crash 1
+lock 0
+step 0 4
+";
+
+/// The drawing of a schedule as text, and how it ends.
+fn drawing_of(alloc: Global, name: &str, schedule: &str) -> Result<String, Fail> {
+    let mut text = String::new(alloc);
+    let _ = put_text(alloc, name, schedule, &mut text)?;
+    Ok(text)
+}
+
+#[test]
+fn a_crash_of_all_is_drawn_as_one_of_each(rt: HostRuntime) -> Result<(), Fail> {
+    for name in ["peterson", "recoverable_peterson", "one_word"] {
+        let all = drawing_of(rt.alloc(), name, ALL_CRASH)?;
+        let each = drawing_of(rt.alloc(), name, EACH_CRASHES)?;
+        assert!(rt; all.as_str() == each.as_str(), "{name}");
+    }
+    Ok(())
+}

@@ -10,6 +10,8 @@ mod bad_texts;
 #[cfg(test)]
 mod cases;
 #[cfg(test)]
+mod claims;
+#[cfg(test)]
 mod constants;
 #[cfg(test)]
 mod costs;
@@ -26,7 +28,12 @@ mod hunts;
 #[cfg(test)]
 mod loops;
 #[cfg(test)]
+mod mean_costs;
+#[cfg(test)]
 mod memory;
+pub mod models;
+#[cfg(test)]
+mod promela;
 #[cfg(test)]
 mod remote_references;
 #[cfg(test)]

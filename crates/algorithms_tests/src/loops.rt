@@ -1,4 +1,4 @@
-//! Loops over numbers, against the numbers of the reference program's second version.
+//! Loops over numbers, and rounds without an access, against the numbers of the reference program's second version.
 
 use crate::cases::{Kind, compare_cases};
 use std::test::Fail;
@@ -26,7 +26,7 @@ answer \n\
 Entries { lock: 0, unlock: 13, recover: None, withdraw: None }
 filter [\"l\", \"k\", \"v\", \"w\"]
 [Declaration { name: \"level\", extent: Each, bound: Some(Joined(Difference, Procs, Number(1))), home: Some(Me) }, Declaration { name: \"last\", extent: Each, bound: Some(Joined(Difference, Procs, Number(1))), home: None }]
-Promises { reentry: false, order: false, exit: None, recovery: None, doorway: None }
+Promises { reentry: false, order: false, exit: None, recovery: None, doorway: None, progress: None }
 2 to 64 processes, 0 lasting names
 first values None
 ";
@@ -34,6 +34,7 @@ first values None
 const SEARCHES: &str = "\
 == filter 2 4 0\n--\n58 states\n\
 == filter 3 4 0\n--\n2947 states\n\
+== tally 2 4 0\n--\n8 moves\n\
 ";
 
 const RUNS: &str = "\
@@ -61,6 +62,54 @@ step 1 -> 27 step[1] = 1\n\
 step 1 -> 27 step[1] = 2\n\
 step 1 -> 27 step[1] = 3 done\n\
 words 1 3 4\n\
+== tally 2 3\n\
+lock 0 -> started\n\
+step 0 -> 16 sum = 12\n\
+step 0 -> 21 sum 12\n\
+step 0 -> 25 most = 14 enter done\n\
+unlock 0 -> started\n\
+step 0 -> 29 most = 0 leave\n\
+step 0 -> 34 most = 3 done\n\
+words 12 3\n\
+== tally 3 4\n\
+lock 1 -> started\n\
+step 1 -> 16 sum = 40\n\
+step 1 -> 21 sum 40\n\
+step 1 -> 25 most = 46 enter done\n\
+unlock 1 -> started\n\
+step 1 -> 29 most = 0 leave\n\
+step 1 -> 34 most = 4 done\n\
+words 40 4\n\
+== tally 3 30\n\
+lock 1 -> started\n\
+step 1 -> 19 sum = 100\n\
+step 1 -> 21 sum 100\n\
+step 1 -> 25 most = 340 enter done\n\
+unlock 1 -> started\n\
+step 1 -> 29 most = 0 leave\n\
+step 1 -> 34 most = 30 done\n\
+words 100 30\n\
+== tally 1 1\n\
+lock 0 -> started\n\
+step 0 -> 16 sum = 0\n\
+step 0 -> 21 sum 0\n\
+step 0 -> 25 most = 0 enter done\n\
+unlock 0 -> started\n\
+step 0 -> 29 most = 0 leave\n\
+step 0 -> 34 most = 0 done\n\
+words 0 0\n\
+== tally 1 1000001\n\
+lock 0 -> started\n\
+step 0 -> 16 sum = 0\n\
+step 0 -> 21 sum 0\n\
+step 0 -> 25 most = 250000500000 enter done\n\
+unlock 0 -> started\n\
+step 0 -> 29 most = 0 leave\n\
+step 0 -> 34 most = 1000001 done\n\
+words 0 1000001\n\
+== tally 1 1000002\n\
+lock 0 -> out of range at 15\n\
+words 0 0\n\
 ";
 
 /// What is wrong, a text, and where: the line, and the number of its fault.
@@ -87,6 +136,10 @@ const BAD: &str = "\
 == known within the loop\nalgorithm a for 2 processes\npromises exclusion\nshared w\ncall lock\n  for j from 1 to 2\n    w := j\n  end\n  w := j this is enter\n  done\ncall unlock\n  w := 0 this is leave\n  done\n--\nline 8: fault 6\n\
 == set in a loop that may have no round\nalgorithm a for 2 processes\npromises exclusion\nshared w\ncall lock\n  for j from 1 to me\n    v := w\n  end\n  w := v this is enter\n  done\ncall unlock\n  w := 0 this is leave\n  done\n--\nline 8: fault 11\n\
 == set in a loop that may have no round for one process\nalgorithm a for 1 to 2 processes\npromises exclusion\nshared w\ncall lock\n  for j from procs - 1 down to 1\n    v := w\n  end\n  w := v this is enter\n  done\ncall unlock\n  w := 0 this is leave\n  done\n--\nline 8: fault 11\n\
+== a ring within a round without an access\nalgorithm a for 2 processes\npromises exclusion\nshared w\ncall lock\n  for j in all\nl:\n    if j = 0 then goto l\n  end\n  w := 1 this is enter\n  done\ncall unlock\n  w := 0 this is leave\n  done\n--\nline 7: fault 12\n\
+== a ring round a loop without an access\nalgorithm a for 2 processes\npromises exclusion\nshared w\ncall lock\n  n := 0\nl:\n  for j in others\n    n := n + j\n  end\n  goto l\ncall unlock\n  w := 0 this is leave\n  done\n--\nline 7: fault 12\n\
+== a ring that leaves rounds without an access\nalgorithm a for 2 processes\npromises exclusion\nshared w\ncall lock\n  n := 0\nl:\n  for j from 1 to me\n    n := n + j\n    if n < 9 then goto l\n  end\n  w := 1 this is enter\n  done\ncall unlock\n  w := 0 this is leave\n  done\n--\nline 7: fault 12\n\
+== rounds without an access, and an end\nalgorithm a for 2 processes\npromises exclusion\nshared w\ncall lock\n  n := 0\n  for j in all\n    n := n + j\n  end\n  done\ncall unlock\n  w := 0 this is leave\n  done\n--\nline 9: fault 13\n\
 ";
 
 /// `from` and `down` are no words of the format.
@@ -94,6 +147,11 @@ const GOOD: &str = "\
 == names\nalgorithm a for 2 processes\npromises exclusion\nconstant from = 3\nshared down up to from\ncall lock\n  for j from from down to 1\n    down := j\n  end\n  down := 1 this is enter\n  done\ncall unlock\n  down := 0 this is leave\n  done\n--\nread\n\
 == a round wherever there are two processes\nalgorithm a for 2 processes\npromises exclusion\nshared w\ncall lock\n  for j from procs - 1 down to 1\n    v := w\n  end\n  w := v this is enter\n  done\ncall unlock\n  w := 0 this is leave\n  done\n--\nread\n\
 == all parts of a value\nalgorithm a for 2 processes\npromises exclusion\nshared w\ncall lock\n  for j from max(me, 1) * 2 to (limit + procs) mod 7\n    w := j\n  end\n  w := 1 this is enter\n  done\ncall unlock\n  w := 0 this is leave\n  done\n--\nread\n\
+== rounds without an access\nalgorithm a for 2 processes\npromises exclusion\nshared w\ncall lock\n  n := 0\n  for j in all\n    if j != me then n := n + j\n  end\n  w := n this is enter\n  done\ncall unlock\n  w := 0 this is leave\n  done\n--\nread\n\
+== rounds without an access in such rounds\nalgorithm a for 2 processes\npromises exclusion\nshared w\ncall lock\n  n := 0\n  for j in all\n    for k from 0 to 9\n      n := n + k * j\n    end\n  end\n  w := n this is enter\n  done\ncall unlock\n  w := 0 this is leave\n  done\n--\nread\n\
+== a way out of rounds without an access\nalgorithm a for 2 processes\npromises exclusion\nshared w\ncall lock\n  n := 0\n  for j in all\n    if n + j > 1 then goto past\n    n := 2\n  end\npast:\n  w := n this is enter\n  done\ncall unlock\n  w := 0 this is leave\n  done\n--\nread\n\
+== a ring with an access that leaves rounds without one\nalgorithm a for 2 processes\npromises exclusion\nshared w\ncall lock\nagain:\n  v := w\n  for j in all\n    if v = j then goto again\n  end\n  w := 1 this is enter\n  done\ncall unlock\n  w := 0 this is leave\n  done\n--\nread\n\
+== rounds of no lines\nalgorithm a for 2 processes\npromises exclusion\nshared w\ncall lock\n  for j in all\n  end\n  w := 1 this is enter\n  done\ncall unlock\n  w := 0 this is leave\n  done\n--\nread\n\
 ";
 
 #[test]

@@ -1,9 +1,9 @@
 //! Searches of algorithms, against the numbers of the reference program's `explore`: how many moves a shortest schedule has, or
-//! how many states there are, with the moves left out. After the text a case has the sizes, how many crashes there may be, and whether processes make all
-//! calls.
+//! how many states there are, with the moves left out. After the text a case has the sizes, how many crashes there may be, of a process
+//! alone and after a plus of all, and whether processes make all calls.
 
 use crate::cases::{Kind, compare_cases};
-use crate::support::{number, text_named};
+use crate::support::{crashes_left, number, text_named};
 use algorithm_explorer::{
     AlgorithmBounds, AlgorithmOutcome, LeftOut, SearchOutcome, Unwatched,
     shortest_algorithm_schedule,
@@ -57,6 +57,18 @@ const OTHERS: &str = "\
 == bakery_1974 2 1 1\n--\n358 states, 79 moves left out from line 16\n\
 ";
 
+const WITH_SYSTEM_CRASHES: &str = "\
+== bakery_ruin 2 1 0+1\n--\n2925 states\n\
+== bakery_ruin 2 2 0+1\n--\n5393 states\n\
+== recoverable_peterson 2 1 0+1\n--\n618 states\n\
+== recoverable_peterson 2 1 1+1\n--\n1512 states\n\
+== recoverable_peterson 2 1 0+2\n--\n1098 states\n\
+== szymanski 2 1 0+1\n--\n325 states\n\
+== lamport_fast 2 1 0+1\n--\n1032 states\n\
+== forgetful_peterson 2 1 0+1\n--\n16 moves\n\
+== peterson 2 1 0+1\n--\n13 moves\n\
+";
+
 const ALL: [AlgorithmCall; 4] = [
     AlgorithmCall::Lock,
     AlgorithmCall::Unlock,
@@ -86,17 +98,12 @@ fn put_found(text: &mut String, found: &AlgorithmOutcome) -> Result<(), AllocErr
 pub fn put_search(alloc: Global, words: &[&str; 8], text: &mut String) -> Result<(), Fail> {
     let [name, procs, limit, crashes, calls, ..] = words;
     let algorithm = read_algorithm(alloc, text_named(name))?;
-    let crashes = if *crashes == "any" {
-        None
-    } else {
-        Some(number(crashes))
-    };
     let found = shortest_algorithm_schedule(
         alloc,
         algorithm,
         number(procs),
         number(limit),
-        crashes,
+        crashes_left(crashes),
         if *calls == "all" { &ALL } else { &ALL[..2] },
         &BOUNDS,
         &mut Unwatched,
@@ -132,4 +139,9 @@ fn states_of_the_bakery_for_three(rt: HostRuntime) -> Result<(), Fail> {
 #[test]
 fn other_algorithms(rt: HostRuntime) -> Result<(), Fail> {
     compare_cases(rt.alloc(), Kind::Search, OTHERS)
+}
+
+#[test]
+fn states_after_crashes_of_all(rt: HostRuntime) -> Result<(), Fail> {
+    compare_cases(rt.alloc(), Kind::Search, WITH_SYSTEM_CRASHES)
 }

@@ -9,7 +9,7 @@ use schedule::read_schedule;
 use std::alloc::Global;
 use std::test::Fail;
 
-/// Process 0 crashes inside, and both enter then: none of its lines can go. What the hunt of seed 2 finds in `one_word`: both read
+/// Process 0 crashes inside, alone or with process 1, and both enter then: none of the lines can go. What the hunt of seed 2 finds in `one_word`: both read
 /// the word before either sets it.
 const LEAST: &str = "== peterson
 rme 1 procs 2 limit 1 cap 1
@@ -26,6 +26,26 @@ rme 1 procs 2 limit 1 cap 1
 lock 0
 step 0 3
 crash 0
+lock 0
+lock 1
+step 1 2
+step 0 2
+step 1 2
+== peterson
+rme 1 procs 2 limit 1 cap 1
+lock 0
+step 0 3
+crash all
+lock 0
+lock 1
+step 1 2
+step 0 2
+step 1 2
+--
+rme 1 procs 2 limit 1 cap 1
+lock 0
+step 0 3
+crash all
 lock 0
 lock 1
 step 1 2

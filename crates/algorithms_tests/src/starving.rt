@@ -3,7 +3,7 @@
 //! `any` where anybody may give up.
 
 use crate::cases::{Kind, compare_cases};
-use crate::support::{number, text_named};
+use crate::support::{crashes_left, number, text_named};
 use algorithm_explorer::{StarvingOutcome, Unwatched, starving_algorithm_schedule};
 use algorithm_texts::read_algorithm;
 use algorithms::AlgorithmCall;
@@ -51,6 +51,13 @@ const QUITTERS: &str = "\
 == peterson 2 1 0 none any\n--\n58 worlds\n\
 ";
 
+/// Of a text that promises deadlock freedom alone a process starves only where nobody enters.
+const PROMISED: &str = "\
+== free_test_and_set 2 1 0 none\n--\n12 worlds\n\
+== fair_test_and_set 2 1 0 none\n--\n0 starves, stem 1, cycle 5\n\
+== crossed_flags 2 1 0 none\n--\n0 starves, stem 4, cycle 2\n\
+";
+
 const AT_LENGTH: &str = "\
 == bakery 2 4 1 recover\n--\n7048 worlds\n\
 == bakery 2 4 1 recover any\n--\n0 starves, stem 15, cycle 5\n\
@@ -86,7 +93,7 @@ pub fn put_starving(alloc: Global, words: &[&str; 8], text: &mut String) -> Resu
         algorithm,
         number(procs),
         number(limit),
-        Some(number(crashes)),
+        crashes_left(crashes),
         calls_named(calls),
         *any == "any",
         100_000,
@@ -106,6 +113,11 @@ pub fn put_starving(alloc: Global, words: &[&str; 8], text: &mut String) -> Resu
     };
     drop(found);
     Ok(written?)
+}
+
+#[test]
+fn starves_against_a_promise(rt: HostRuntime) -> Result<(), Fail> {
+    compare_cases(rt.alloc(), Kind::Starving, PROMISED)
 }
 
 #[test]

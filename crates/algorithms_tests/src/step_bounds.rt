@@ -176,6 +176,9 @@ const BAD: &str = "\
 == the recovery first\nalgorithm a for 2 processes\npromises exclusion, reentry, recovery within 1, exit within 1\nshared w\ncall lock\n  w := 1 this is enter\n  done\ncall unlock\n  w := 0 this is leave\n  done\n--\nline 2: fault 4\n\
 == a doorway without order\nalgorithm a for 2 processes\npromises exclusion, reentry, doorway within 1\nshared w\ncall lock\n  w := 1 this is enter\n  done\ncall unlock\n  w := 0 this is leave\n  done\n--\nline 2: fault 4\n\
 == the doorway first\nalgorithm a for 2 processes\npromises exclusion, order, doorway within 1, exit within 1\nshared w\ncall lock\n  w := 1 this is enter\n  done\ncall unlock\n  w := 0 this is leave\n  done\n--\nline 2: fault 4\n\
+== no freedom\nalgorithm a for 2 processes\npromises exclusion, deadlock\nshared w\ncall lock\n  w := 1 this is enter\n  done\ncall unlock\n  w := 0 this is leave\n  done\n--\nline 2: fault 4\n\
+== two freedoms\nalgorithm a for 2 processes\npromises exclusion, deadlock freedom, starvation freedom\nshared w\ncall lock\n  w := 1 this is enter\n  done\ncall unlock\n  w := 0 this is leave\n  done\n--\nline 2: fault 4\n\
+== freedom first\nalgorithm a for 2 processes\npromises exclusion, deadlock freedom, order\nshared w\ncall lock\n  w := 1 this is enter\n  done\ncall unlock\n  w := 0 this is leave\n  done\n--\nline 2: fault 4\n\
 == alone\nalgorithm a for 2 processes\npromises exit within 1\nshared w\ncall lock\n  w := 1 this is enter\n  done\ncall unlock\n  w := 0 this is leave\n  done\n--\nline 2: fault 4\n\
 == too great\nalgorithm a for 2 processes\npromises exclusion, exit within 18446744073709551616\nshared w\ncall lock\n  w := 1 this is enter\n  done\ncall unlock\n  w := 0 this is leave\n  done\n--\nline 2: fault 16\n\
 ";
@@ -183,7 +186,7 @@ const BAD: &str = "\
 /// `exit`, `recovery`, `doorway` and `within` are no words of the format.
 const GOOD: &str = "\
 == a recovery alone\nalgorithm a for 2 processes\npromises exclusion, recovery within 0\nshared w\ncall lock\n  w := 1 this is enter\n  done\ncall unlock\n  w := 0 this is leave\n  done\n--\nread\n\
-== all of them\nalgorithm a for 2 processes\npromises exclusion, reentry, order, exit within 18446744073709551615, recovery within 7, doorway within 2\nshared w\ncall lock\n  w := 1 this is begin\n  w := 2 this is ready\n  w := 3 this is enter\n  done\ncall unlock\n  w := 0 this is leave\n  done\n--\nread\n\
+== all of them\nalgorithm a for 2 processes\npromises exclusion, reentry, order, exit within 18446744073709551615, recovery within 7, doorway within 2, starvation freedom\nshared w\ncall lock\n  w := 1 this is begin\n  w := 2 this is ready\n  w := 3 this is enter\n  done\ncall unlock\n  w := 0 this is leave\n  done\n--\nread\n\
 == as names\nalgorithm exit for 2 processes\npromises exclusion, exit within 1\nshared within\ncall lock\n  recovery := within\n  within := recovery this is enter\n  done\ncall unlock\n  within := 0 this is leave\n  done\n--\nread\n\
 ";
 

@@ -2,7 +2,7 @@
 //! has the sizes, how many crashes there may be, and which calls processes make.
 
 use crate::cases::{Kind, compare_cases};
-use crate::support::{number, text_named};
+use crate::support::{crashes_left, number, text_named};
 use algorithm_explorer::{StuckOutcome, Unwatched, stuck_algorithm_schedule};
 use algorithm_texts::read_algorithm;
 use algorithms::AlgorithmCall;
@@ -54,17 +54,12 @@ fn calls_named(name: &str) -> &'static [AlgorithmCall] {
 pub fn put_stuck(alloc: Global, words: &[&str; 8], text: &mut String) -> Result<(), Fail> {
     let [name, procs, limit, crashes, calls, ..] = words;
     let algorithm = read_algorithm(alloc, text_named(name))?;
-    let crashes = if *crashes == "any" {
-        None
-    } else {
-        Some(number(crashes))
-    };
     let found = stuck_algorithm_schedule(
         alloc,
         algorithm,
         number(procs),
         number(limit),
-        crashes,
+        crashes_left(crashes),
         calls_named(calls),
         100_000,
         &mut Unwatched,

@@ -1,7 +1,8 @@
 //! What tests of several files use.
 
 use crate::sessions;
-use crate::texts::{arrays, bakeries, constructs, homes, loops, others, promises, swaps};
+use crate::texts::{arrays, bakeries, claims, constructs, homes, loops, others, promises, swaps};
+use algorithm_explorer::CrashesLeft;
 use algorithm_lab::AlgorithmReplayFault;
 use schedule::{Schedule, write_schedule};
 use std::alloc::{AllocError, Global};
@@ -13,6 +14,19 @@ pub fn number(word: &str) -> u64 {
     word.parse().unwrap_or(u64::MAX)
 }
 
+/// The crashes that a word spells: of a process alone, or `any`, and after a plus of all.
+pub fn crashes_left(word: &str) -> CrashesLeft {
+    let (alone, together) = word.split_once('+').unwrap_or((word, "0"));
+    CrashesLeft {
+        alone: if alone == "any" {
+            None
+        } else {
+            Some(number(alone))
+        },
+        together: number(together),
+    }
+}
+
 /// The name in the header of a text.
 fn name_of(text: &[u8]) -> &str {
     let text = std::str::from_utf8(text).unwrap_or("");
@@ -21,7 +35,26 @@ fn name_of(text: &[u8]) -> &str {
     name
 }
 
-/// The text of that name among those with swaps. That of no name is empty, which is read by no test.
+/// The text of that name among those that say what never holds, or that calls end. That of no name is empty, which is read by no test.
+fn claims_named(name: &str) -> &'static [u8] {
+    for text in [
+        claims::BEGUN_TICKET,
+        claims::CLAIMED_TICKET,
+        claims::KEPT_TICKET,
+        claims::LINKED_MCS,
+        claims::UNLINKED_MCS,
+        promises::CROSSED_FLAGS,
+        promises::FAIR_TEST_AND_SET,
+        promises::FREE_TEST_AND_SET,
+    ] {
+        if name_of(text) == name {
+            return text;
+        }
+    }
+    b""
+}
+
+/// The text of that name among those with swaps, or of those that `claims_named` knows.
 fn swaps_named(name: &str) -> &'static [u8] {
     for text in [
         swaps::ANDERSON,
@@ -44,7 +77,7 @@ fn swaps_named(name: &str) -> &'static [u8] {
             return text;
         }
     }
-    b""
+    claims_named(name)
 }
 
 /// The text of that name among those with arrays of other sizes, with loops over numbers, or with swaps.
@@ -57,6 +90,7 @@ fn arrays_named(name: &str) -> &'static [u8] {
         arrays::TABLE,
         loops::FILTER,
         loops::STAIRS,
+        loops::TALLY,
     ] {
         if name_of(text) == name {
             return text;

@@ -2,6 +2,7 @@
 
 pub mod arrays;
 pub mod bakeries;
+pub mod claims;
 pub mod constructs;
 pub mod homes;
 pub mod loops;

@@ -8,7 +8,7 @@ use std::process::Abort;
 use std::test::Fail;
 
 /// All names of texts.
-const NAMES: [&str; 52] = [
+const NAMES: [&str; 60] = [
     "bakery",
     "bakery_ruin",
     "exit_on_crash",
@@ -61,6 +61,14 @@ const NAMES: [&str; 52] = [
     "mcs_exit_3",
     "ticket_exit_1",
     "ticket_exit_2",
+    "begun_ticket",
+    "claimed_ticket",
+    "kept_ticket",
+    "linked_mcs",
+    "unlinked_mcs",
+    "crossed_flags",
+    "fair_test_and_set",
+    "free_test_and_set",
 ];
 
 /// A text as it is written: blocks that end in lines to which no run comes, gotos at the end of an `if`, and brackets.
@@ -177,6 +185,41 @@ call unlock
   done
 ";
 
+/// A text as it is written: what never holds, between declarations and after them, and labels that nothing but a claim names.
+const CLAIMS: &str = "algorithm claims for 2 to 8 processes
+promises exclusion, order, exit within 3, starvation freedom
+shared p1
+never for p2: p1 = p2 and p2 is out
+shared tail up to procs starts procs
+shared next[procs] up to procs at owner
+shared grid[2 * procs][procs]
+constant nil = procs
+private last
+never for p2, p3: next[p2] = p3 and next[next[p3]] = p2 or not (p2 is waiting)
+never p1 > tail and next[tail] = tail + p1 * 2
+
+never for p2: p2 at at1 and (p2 at at4 or p2 is inside and p2 at at11)
+never for p2, p3: (p2, grid[p3 * 2][p2]) < (p3, 1) and tail is doorway
+never for p2: p2 is dead
+
+call lock
+  last := me
+at1:
+  a := tail this is begin
+  this is ready
+at4:
+  if a = last then
+    last := 1
+  end
+  p1 := a this is enter
+  done
+
+call unlock
+  next[me] := 0 this is leave
+at11:
+  done
+";
+
 /// What is written of a text that is read. It is read again as the same algorithm.
 fn written_of<R: Abort>(rt: &R, alloc: Global, text: &[u8]) -> Result<String, Fail> {
     let read = read_algorithm(alloc, text)?;
@@ -200,7 +243,7 @@ fn texts_are_written_and_read_again(rt: HostRuntime) -> Result<(), Fail> {
 
 #[test]
 fn a_written_text_is_written_as_it_stands(rt: HostRuntime) -> Result<(), Fail> {
-    for text in [BLOCKS, VALUES, EXTENTS] {
+    for text in [BLOCKS, VALUES, EXTENTS, CLAIMS] {
         let written = written_of(&rt, rt.alloc(), text.as_bytes())?;
         assert!(rt; written.as_str() == text, "{written}");
     }

@@ -2,6 +2,8 @@
 //! functions of `schedule` or `crashlab`.
 
 #[cfg(test)]
+mod crash_all;
+#[cfg(test)]
 mod cuts;
 #[cfg(test)]
 mod devices;

@@ -4,6 +4,7 @@
 mod algorithm_commands;
 mod algorithm_costs;
 mod algorithm_explores;
+mod algorithm_exports;
 mod algorithm_faults;
 mod explores;
 mod hunts;

@@ -51,6 +51,7 @@ pub fn number_specified(fault: Fault) -> u64 {
         Fault::LongExit => 8,
         Fault::LongRecovery => 9,
         Fault::LongDoorway => 10,
+        Fault::BrokenClaim => 11,
     }
 }
 

@@ -108,7 +108,7 @@ pub fn count_of(k: u64) -> Option<Count> {
 pub fn steps_of(line: Line) -> Option<(u64, u64)> {
     match line {
         Line::Step(p, k) => Some((p, k.get())),
-        Line::Start(_, _) | Line::Crash(_) => None,
+        Line::Start(_, _) | Line::Crash(_) | Line::CrashAll => None,
     }
 }
 

@@ -365,4 +365,43 @@ enter 0
 answer 0 done
 words flag 4 4
 verdict against 2 at 11
+== recoverable_peterson
+rme 1 procs 2 limit 1 cap 1
+lock 0
+step 0 3
+lock 1
+step 1
+crash all
+lock 1
+step 1 9
+lock 0
+step 0 9
+--
+begin 0
+crash 0
+crash 1
+begin 1
+ready 1
+ready 0
+words flag 2 2
+words turn 1
+verdict fine
+== one_word
+rme 1 procs 3 limit 1 cap 1
+lock 1
+step 1 2
+crash all
+lock 2
+step 2 9
+--
+begin 1
+ready 1
+enter 1
+answer 1 done
+crash 0
+leave 1
+crash 1
+crash 2
+words held 1
+verdict fine
 ";

@@ -1,4 +1,4 @@
-//! The texts of examples/algorithms with loops over numbers, and one with such loops of each kind.
+//! The texts of examples/algorithms with loops over numbers, one with such loops of each kind, and one whose rounds make no access.
 
 pub const FILTER: &[u8] =
     br"# Peterson 1981, for more than two: at each level the last one to come waits.
@@ -58,5 +58,44 @@ call unlock
   for i from me - 1 to 3
     step[1] := i
   end
+  done
+";
+
+/// Rounds without an access.
+pub const TALLY: &[u8] =
+    br"# Rounds without an access: nested, left by a goto, up and down, and as many as the limit says.
+algorithm tally for 1 to 64 processes
+promises exclusion
+
+shared sum up to 100
+shared most
+
+call lock
+  n := 0
+  for i from 1 to limit
+    for j in others
+      n := n + i * (j + 1)
+      if n > 100 then goto full
+    end
+  end
+  sum := n
+  goto on
+full:
+  sum := 100
+on:
+  m := sum
+  for i from limit down to 1
+    if i mod 2 = 0 then m := m + i
+  end
+  most := m                             this is enter
+  done
+
+call unlock
+  most := 0                             this is leave
+  n := 0
+  for i from 2 to limit
+    n := i
+  end
+  most := n
   done
 ";

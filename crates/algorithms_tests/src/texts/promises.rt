@@ -1,4 +1,4 @@
-//! Texts that bound the own steps of a section.
+//! Texts that bound the own steps of a section, or promise that calls end.
 
 pub const TICKET_EXIT_2: &[u8] = br"algorithm ticket_exit_2 for 1 to 64 processes
 promises exclusion, order, exit within 2
@@ -160,4 +160,41 @@ call recover
 call withdraw
   flag[me] := 0                         this is quit
   done withdrawn
+";
+
+pub const FREE_TEST_AND_SET: &[u8] = br"algorithm free_test_and_set for 1 to 64 processes
+promises exclusion, deadlock freedom
+shared held up to 1
+call lock
+  await h := swap held to 1 until h = 0
+  this is enter
+  done
+call unlock
+  held := 0                             this is leave
+  done
+";
+
+pub const FAIR_TEST_AND_SET: &[u8] = br"algorithm fair_test_and_set for 1 to 64 processes
+promises exclusion, starvation freedom
+shared held up to 1
+call lock
+  await h := swap held to 1 until h = 0
+  this is enter
+  done
+call unlock
+  held := 0                             this is leave
+  done
+";
+
+pub const CROSSED_FLAGS: &[u8] = br"algorithm crossed_flags for 2 processes
+promises exclusion, deadlock freedom
+shared flag[procs] up to 1
+call lock
+  flag[me] := 1
+  await f := flag[1 - me] until f = 0
+  this is enter
+  done
+call unlock
+  flag[me] := 0                         this is leave
+  done
 ";

@@ -151,15 +151,17 @@ fn made(world: &mut VariantWorld, seen: &mut Seen, line: Line) -> Result<u64, Re
             seen.position = Position::InACall;
             Ok(case)
         }
+        Line::CrashAll => Ok(0),
     }
 }
 
-/// The process of a line.
-fn process_of(line: Line) -> u64 {
+/// The process of a line. None for a crash of all, which the rule never draws.
+fn process_of(line: Line) -> Option<u64> {
     match line {
-        Line::Crash(p) => p,
-        Line::Step(p, _) => p,
-        Line::Start(p, _) => p,
+        Line::Crash(p) => Some(p),
+        Line::Step(p, _) => Some(p),
+        Line::Start(p, _) => Some(p),
+        Line::CrashAll => None,
     }
 }
 
@@ -168,7 +170,7 @@ fn cases(world: &mut VariantWorld, found: &Schedule) -> Option<u64> {
     let mut seen = [UNSEEN; 3];
     let mut cases = 0;
     for line in found.lines() {
-        let here = seen.get_mut(process_of(*line) as usize)?;
+        let here = seen.get_mut(process_of(*line)? as usize)?;
         let case = made(world, here, *line).unwrap_or(0);
         if case == 0 {
             return None;

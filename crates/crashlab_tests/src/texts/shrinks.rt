@@ -31,13 +31,19 @@ fn is_text(alloc: Global, schedule: &Schedule, text: &[u8]) -> bool {
     }
 }
 
+/// Two inside, and then a crash of all, which can go.
+const TWO_INSIDE_AND_A_CRASH: &[u8] =
+    b"rme 1 procs 2 limit 10 cap 1\nlock 0\nlock 1\nstep 0 5\nstep 1 6\nstep 1 4\nstep 0 6\ncrash all\n";
+
 #[test]
 fn two_inside(rt: HostRuntime) {
-    let is_least = match shrunk(rt.alloc(), Variant::NoLook, TWO_INSIDE) {
-        Ok(Some(least)) => is_text(rt.alloc(), &least, LEAST),
-        _ => false,
-    };
-    assert!(rt; is_least);
+    for text in [TWO_INSIDE, TWO_INSIDE_AND_A_CRASH] {
+        let is_least = match shrunk(rt.alloc(), Variant::NoLook, text) {
+            Ok(Some(least)) => is_text(rt.alloc(), &least, LEAST),
+            _ => false,
+        };
+        assert!(rt; is_least);
+    }
 }
 
 /// Whether minimizing the text is refused so.

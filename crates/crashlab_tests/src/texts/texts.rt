@@ -95,7 +95,26 @@ lock  0
 2 3
 rme 1 procs 2 limit 10 cap 1
 lock 0\r
-";
+==
+2 3
+rme 1 procs 2 limit 10 cap 1
+crash alle
+==
+2 3
+rme 1 procs 2 limit 10 cap 1
+crash  all
+==
+2 6
+rme 1 procs 2 limit 10 cap 1
+crash all 0
+==
+2 6
+rme 1 procs 2 limit 10 cap 1
+crash all\x20
+==
+2 5
+rme 1 procs 2 limit 10 cap 1
+crash all";
 
 /// Whether the text after the first line of this row has the fault of that line.
 fn is_hostile(alloc: Global, row: &str) -> bool {
@@ -142,6 +161,7 @@ withdraw 1
 step 0
 step 0 1000000
 crash 1
+crash all
 ";
     assert!(rt; is_kept(rt.alloc(), all));
     assert!(rt; is_kept(rt.alloc(), b"rme 1 procs 0 limit 0 cap 0\n"));

@@ -15,6 +15,7 @@ Commands:
   hunt     Draws schedules until a variant of the lock, or an algorithm, goes wrong
   explore  Tries all schedules up to a bound, for the shortest that goes wrong
   cost     Looks for the greatest number of remote references of a passage of an algorithm
+  export   Writes the model of an algorithm for another tool
   states   Writes and checks the states of a search as lines of a text
   judge    Judges a trace of deeds, and prints the verdict
   draw     Draws the run of a schedule as a space-time diagram
@@ -119,24 +120,25 @@ Tries all schedules up to a bound, for the shortest that goes wrong
 Usage: rmelab explore [OPTIONS] --procs <N>
 
 Options:
-      --variant <V>       right, no-look, no-ties, renumber, exit-on-crash, count-up or last-skipped
-      --algorithm <FILE>  Run this algorithm, a text, in place of a variant
-      --procs <N>         1 to 64 processes
-      --calls <LIST>      lock, unlock, recover, withdraw, and of a variant consistent, append and close, with commas; without it lock,unlock, with --stuck consistent too, and of an algorithm the calls of its text
-      --crashes <C>       At most C crashes; 0 without it
-      --moves <K>         At most K moves; no bound without it
-      --states <S>        At most S states; 10000000 without it
-      --limit <L>         Numbers up to L; 4 without it
-      --cap <M>           Room for M messages; 1 without it; not with --algorithm
-      --width <W>         1 to 8 words a message; 1 without it; not with --algorithm
-      --stuck             Look for stuck states too; not with --moves
-      --starving [<WHO>]  Look for a process that starves; WHO may give up: nobody, as without it, or any; not with --moves
-      --all-variables     Distinguish states by dead variables too; not with --algorithm
-      --jobs <N>          N threads at once; without it, or 0, as many as there are processors
-  -h, --help              Print help
+      --variant <V>         right, no-look, no-ties, renumber, exit-on-crash, count-up or last-skipped
+      --algorithm <FILE>    Run this algorithm, a text, in place of a variant
+      --procs <N>           1 to 64 processes
+      --calls <LIST>        lock, unlock, recover, withdraw, and of a variant consistent, append and close, with commas; without it lock,unlock, with --stuck consistent too, and of an algorithm the calls of its text
+      --crashes <C>         At most C crashes; 0 without it
+      --system-crashes <G>  At most G crashes of all processes at once; 0 without it; not with --variant
+      --moves <K>           At most K moves; no bound without it
+      --states <S>          At most S states; 10000000 without it
+      --limit <L>           Numbers up to L; 4 without it
+      --cap <M>             Room for M messages; 1 without it; not with --algorithm
+      --width <W>           1 to 8 words a message; 1 without it; not with --algorithm
+      --stuck               Look for stuck states too; not with --moves
+      --starving [<WHO>]    Look for a process that starves; WHO may give up: nobody, as without it, or any; not with --moves
+      --all-variables       Distinguish states by dead variables too; not with --algorithm
+      --jobs <N>            N threads at once; without it, or 0, as many as there are processors
+  -h, --help                Print help
 
-In: nothing; with --algorithm the algorithm's text: docs/use/algorithms.md. All schedules are tried whose moves are the start of a call of --calls, one step, or a crash, of which there are at most --crashes: the shorter before the longer. Two worlds are one state if their words, their processes, the judge and the crashes left are the same; with --starving the judge is left out. Of a process those variables count that a move may still read; all do with --all-variables or, of a variant, --stuck or --starving.
-Out: the schedule of fewest moves that goes wrong, which `rmelab replay` with the same --variant or --algorithm replays to its fault; `nothing found within K moves`; or, if all was tried, `nothing found: all N states`; of an algorithm with moves to values out of range `nothing found: all N states, M moves left out from line L`. With --stuck, if none goes wrong: the schedule of fewest moves to a state from which no starts and steps bring each process to rest with all lock words 0, unless by an unlock that ruins the lock, or, of an algorithm, to rest outside and not in line; it replays to a fine verdict; or `never stuck: all N states`. With --starving, whatever goes wrong: a schedule of fewest moves that ends with a cycle in which a process starves, and the line `starves P cycle K`: process P, in the last K moves; or `never starving: all N states`. With --stuck and --starving: both. Nothing is said of a greater size, limit or number of crashes.
+In: nothing; with --algorithm the algorithm's text: docs/use/algorithms.md. All schedules are tried whose moves are the start of a call of --calls, one step, a crash, of which there are at most --crashes, or, of an algorithm, a crash of all processes, of which there are at most --system-crashes: the shorter before the longer. Two worlds are one state if their words, their processes, the judge and the crashes left are the same; with --starving the judge is left out. Of a process those variables count that a move may still read; all do with --all-variables or, of a variant, --stuck or --starving.
+Out: the schedule of fewest moves that goes wrong, which `rmelab replay` with the same --variant or --algorithm replays to its fault; `nothing found within K moves`; or, if all was tried, `nothing found: all N states`; of an algorithm with moves to values out of range `nothing found: all N states, M moves left out from line L`. With --stuck, if none goes wrong: the schedule of fewest moves to a state from which no starts and steps bring each process to rest with all lock words 0, unless by an unlock that ruins the lock, or, of an algorithm, to rest outside and not in line; it replays to a fine verdict; or `never stuck: all N states`. With --starving, whatever goes wrong: a schedule of fewest moves that ends with a cycle in which a process starves, and the line `starves P cycle K`: process P, in the last K moves; or `never starving: all N states`. With --stuck and --starving: both. With neither, without --moves, of an algorithm that promises `deadlock freedom` or `starvation freedom`, if nothing was found: also what --starving finds. Nothing is said of a greater size, limit or number of crashes.
 Shown: on standard error, if that is a terminal, the states, how many moves deep and the states a second, once a second while it works.
 Exit status: 0 if nothing was found, 1 if a schedule was, 2 after a fault of the words or the algorithm, 3 after one of a device or of memory, or if there are more states than --states.
 
@@ -147,22 +149,40 @@ Looks for the greatest number of remote references of a passage of an algorithm
 Usage: rmelab cost [OPTIONS] --algorithm <FILE> --model <M> --procs <N>
 
 Options:
-      --algorithm <FILE>  Run this algorithm, a text, in place of a variant
-      --model <M>         dsm, write-through or write-back
-      --super-passages    Count in super-passages, which a crash does not end
-      --procs <N>         1 to 64 processes
-      --calls <LIST>      The calls that are started, as for `explore`
-      --crashes <C>       At most C crashes; 0 without it
-      --states <S>        At most S states; 10000000 without it
-      --limit <L>         Numbers up to L; 4 without it
-  -h, --help              Print help
+      --algorithm <FILE>    Run this algorithm, a text, in place of a variant
+      --model <M>           dsm, write-through or write-back
+      --super-passages      Count in super-passages, which a crash does not end
+      --procs <N>           1 to 64 processes
+      --calls <LIST>        The calls that are started, as for `explore`
+      --crashes <C>         At most C crashes; 0 without it
+      --system-crashes <G>  At most G crashes of all processes at once; 0 without it
+      --states <S>          At most S states; 10000000 without it
+      --limit <L>           Numbers up to L; 4 without it
+  -h, --help                Print help
 
-In: the algorithm's text: docs/use/algorithms.md. All its schedules are tried whose moves are the start of a call of --calls, one step, or a crash, of which there are at most --crashes. A passage costs each access of its process that is remote in the model: docs/dev/texts.md.
+In: the algorithm's text: docs/use/algorithms.md. All its schedules are tried whose moves are the start of a call of --calls, one step, a crash, of which there are at most --crashes, or a crash of all processes, of which there are at most --system-crashes. A passage costs each access of its process that is remote in the model: docs/dev/texts.md.
 Out: a schedule that reaches the greatest cost, and the line `process P passage cost K`; or, if none is the greatest, a schedule and the line `process P passage cost unbounded cycle K`: its last K moves can be made again and again, and cost something each time. With --super-passages the line has `super-passage` in place of `passage`. Nothing is said of a greater size, limit or number of crashes.
 Shown: on standard error, if that is a terminal, the states, how many moves deep and the states a second, once a second while it works.
 Exit status: 0 if a cost is the greatest, 1 if none is, 2 after a fault of the words or the algorithm, 3 after one of a device or of memory, or if there are more states than --states.
 
 Example: rmelab cost --algorithm examples/algorithms/mcs.lock --model write-back --procs 2
+@row rmelab export --help @out
+Writes the model of an algorithm for another tool
+
+Usage: rmelab export [OPTIONS] --promela <FILE> --procs <N>
+
+Options:
+      --promela <FILE>  The algorithm whose model is written
+      --procs <N>       1 to 64 processes
+      --crashes <C>     At most C crashes; 0 without it
+      --limit <L>       Numbers up to L; 4 without it
+  -h, --help            Print help
+
+In: the algorithm's text: docs/use/algorithms.md.
+Out: a model in Promela of all its schedules whose moves are the start of a call, one step, or a crash, of which there are at most --crashes. SPIN searches it, and finds an assertion violated where the promises are broken, but for never lines and promises on calls under way: spin -a, then a C compiler with -DSAFETY -DNOREDUCE. It stores as many states as explore counts, where the judge has nothing against it and no number is above 32767.
+Exit status: 0, 2 after a fault of the words or the algorithm, 3 after one of a device or of memory.
+
+Example: rmelab export --promela examples/algorithms/mcs.lock --procs 2
 @row rmelab states --help @out
 Writes and checks the states of a search as lines of a text
 
@@ -289,7 +309,7 @@ Usage: rmelab replay [OPTIONS] [FILE]
 For more information, try '--help'.
 @row rmelab @ends 2 @err
 error: 'rmelab' requires a subcommand but one was not provided
-  [subcommands: replay, run, hunt, explore, cost, states, judge, draw, shrink, step, explain, help]
+  [subcommands: replay, run, hunt, explore, cost, export, states, judge, draw, shrink, step, explain, help]
 
 Usage: rmelab <COMMAND>
 

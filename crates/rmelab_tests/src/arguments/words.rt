@@ -77,20 +77,32 @@ withdraw: false, append: false, close: false }, crashes: 0, moves: 1844674407370
 width: 1, stuck: true, starving: Some(Any), all_variables: false, jobs: 0 })
 
 rmelab explore --algorithm a.lock --procs 2 --starving
-ExploreAlgorithm(AlgorithmExploreArgs { algorithm: \"a.lock\", procs: 2, calls: None, crashes: 0, moves: 18446744073709551615, \
-states: 10000000, limit: 4, stuck: false, starving: Some(Nobody), jobs: 0 })
+ExploreAlgorithm(AlgorithmExploreArgs { algorithm: \"a.lock\", procs: 2, calls: None, crashes: 0, system_crashes: 0, \
+moves: 18446744073709551615, states: 10000000, limit: 4, stuck: false, starving: Some(Nobody), jobs: 0 })
 
 rmelab explore --algorithm a.lock --procs 2 --stuck --limit 1 --jobs 3
-ExploreAlgorithm(AlgorithmExploreArgs { algorithm: \"a.lock\", procs: 2, calls: None, crashes: 0, moves: 18446744073709551615, \
-states: 10000000, limit: 1, stuck: true, starving: None, jobs: 3 })
+ExploreAlgorithm(AlgorithmExploreArgs { algorithm: \"a.lock\", procs: 2, calls: None, crashes: 0, system_crashes: 0, \
+moves: 18446744073709551615, states: 10000000, limit: 1, stuck: true, starving: None, jobs: 3 })
+
+rmelab explore --algorithm a.lock --procs 2 --crashes 1 --system-crashes 2
+ExploreAlgorithm(AlgorithmExploreArgs { algorithm: \"a.lock\", procs: 2, calls: None, crashes: 1, system_crashes: 2, \
+moves: 18446744073709551615, states: 10000000, limit: 4, stuck: false, starving: None, jobs: 0 })
+
+rmelab export --promela a.lock --procs 3
+Export(ExportArgs { algorithm: \"a.lock\", procs: 3, limit: 4, crashes: 0 })
+
+rmelab export --promela a.lock --procs 2 --limit 1 --crashes 2
+Export(ExportArgs { algorithm: \"a.lock\", procs: 2, limit: 1, crashes: 2 })
 
 rmelab cost --algorithm a.lock --model dsm --procs 3 --crashes 1
 Cost(CostArgs { search: AlgorithmExploreArgs { algorithm: \"a.lock\", procs: 3, calls: None, crashes: 1, \
+system_crashes: 0, \
 moves: 18446744073709551615, states: 10000000, limit: 4, stuck: false, starving: None, jobs: 0 }, model: Distributed, \
 kind: Passage })
 
 rmelab cost --algorithm a.lock --model write-back --procs 2 --super-passages --limit 1
 Cost(CostArgs { search: AlgorithmExploreArgs { algorithm: \"a.lock\", procs: 2, calls: None, crashes: 0, \
+system_crashes: 0, \
 moves: 18446744073709551615, states: 10000000, limit: 1, stuck: false, starving: None, jobs: 0 }, model: WriteBack, \
 kind: SuperPassage })
 
@@ -108,6 +120,7 @@ words: 0, digits: 2, part: 1, parts: 3, file: Some(\"a.states\") } })
 
 rmelab states first --algorithm a.lock --procs 2 --words 70 --digits 1
 StatesAlgorithm(AlgorithmStatesArgs { search: AlgorithmExploreArgs { algorithm: \"a.lock\", procs: 2, calls: None, crashes: 0, \
+system_crashes: 0, \
 moves: 18446744073709551615, states: 10000000, limit: 4, stuck: false, starving: None, jobs: 0 }, stream: StreamArgs { \
 tool: First, words: 70, digits: 1, part: 0, parts: 1, file: None } })
 

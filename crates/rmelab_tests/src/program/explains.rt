@@ -62,6 +62,7 @@ against 7
 against 8
 against 9
 against 10
+against 11
 answer clean
 answer owner-died
 answer numbers-spent
@@ -142,7 +143,7 @@ See docs/theory/mailbox.md, Tasks.
 step look: Loads choosing of another process, to pass it. If it is 1 the step is blocked, and the next one reads the same word.
 See docs/theory/model.md, Step.
 @row rmelab explain refused 16 @out
-refused 16: A value is not 0 to 18446744073709551615, a division is by 0, an index is no process, a store is above its bound, or a deed is the fourth of its step. The start or the step is refused, and nothing changes.
+refused 16: A value is not 0 to 18446744073709551615, a division is by 0, an index is no process, a store is above its bound, a deed is the fourth of its step, or loops have too many rounds without an access. The start or the step is refused, and nothing changes.
 See docs/use/algorithms.md, Meaning.
 @row rmelab explain algorithm fault 7 @out
 algorithm fault 7: A shared word is part of a value, a condition or an index, or is stored into another. One line makes one access: read the word into a private name in a line of its own.

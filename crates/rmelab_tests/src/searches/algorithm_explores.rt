@@ -6,7 +6,7 @@ use crate::support::invocation::{all_come_to, program_comes_to};
 use std::test::Fail;
 
 /// `TWO_AT_ONCE`: both read that nobody holds it before either has stored. `CRASH_INSIDE`: process 0 dies inside, comes back and
-/// gives way, and process 1 enters. `STARVES`: process 1 sees the flag of process 0 each time. `OUT_OF_NUMBERS`: process 1 waits for no
+/// gives way, and process 1 enters; `CRASH_OF_ALL`: so it does where all die. `STARVES`: process 1 sees the flag of process 0 each time. `OUT_OF_NUMBERS`: process 1 waits for no
 /// number, process 0 for its doorway. `LEFT_HELD`: process 0 waits for itself. `NO_MAILBOX`: the options of a
 /// variant's search alone.
 pub const TEXTS: &str = "
@@ -17,6 +17,21 @@ step 0
 step 0
 step 0
 crash 0
+lock 0
+step 0
+lock 1
+step 1
+step 1
+step 0
+step 1
+step 1
+@text CRASH_OF_ALL
+rme 1 procs 2 limit 1 cap 1
+lock 0
+step 0
+step 0
+step 0
+crash all
 lock 0
 step 0
 lock 1
@@ -99,6 +114,13 @@ const SEARCHES_OF_ALGORITHMS: &str = "
 @row rmelab explore --procs 2 --algorithm a.lock --limit 1 --moves 20 --calls unlock,lock --jobs 3 @file a.lock NO_LOOK @out SHORTEST @ends 1
 @row rmelab explore --procs 2 --algorithm a.lock --limit 1 --moves 20 --calls unlock,lock --jobs 1 @file a.lock NO_LOOK @out SHORTEST @ends 1
 @row rmelab explore --algorithm a.lock --procs 2 --limit 1 --crashes 1 @file a.lock PETERSON @out CRASH_INSIDE @ends 1
+@row rmelab explore --algorithm a.lock --procs 2 --limit 1 --system-crashes 1 @file a.lock PETERSON @out CRASH_OF_ALL @ends 1
+@row rmelab explore --algorithm a.lock --procs 2 --limit 1 --system-crashes 1 --jobs 3 @file a.lock PETERSON @out CRASH_OF_ALL @ends 1
+@row rmelab explore --algorithm a.lock --procs 2 --limit 1 --system-crashes 1 --calls lock,unlock @file a.lock BAKERY_RUIN @out
+nothing found: all 2925 states
+@row rmelab explore --algorithm a.lock --procs 2 --limit 1 --system-crashes 1 --stuck @file a.lock PETERSON @out CRASH_OF_ALL @ends 1
+@row rmelab explore --variant right --procs 2 --system-crashes 1 @ends 2 @err BAD_SIZE
+@row rmelab explore --variant wrong --procs 2 --system-crashes 1 @ends 2 @err BAD_VARIANT
 @row rmelab explore --algorithm a.lock --procs 2 @file a.lock ONE_WORD @out TWO_AT_ONCE @ends 1
 @row rmelab explore --algorithm a.lock --procs 2 --limit 1 --moves 19 --jobs 1 @file a.lock NO_LOOK @out
 nothing found within 19 moves
@@ -128,6 +150,21 @@ nothing found: all 1 states
 never starving: all 58 states
 @row rmelab explore --algorithm a.lock --procs 2 --limit 3 --starving @file a.lock BAKERY_1974 @out
 never starving: all 269 states
+@row rmelab explore --algorithm a.lock --procs 2 --limit 1 --jobs 3 @file a.lock FREE_TEST_AND_SET @out
+nothing found: all 12 states
+never starving: all 12 states
+@row rmelab explore --algorithm a.lock --procs 2 --limit 1 --moves 3 @file a.lock FREE_TEST_AND_SET @out
+nothing found within 3 moves
+@row rmelab explore --algorithm a.lock --procs 2 --limit 1 @file a.lock FAIR_TEST_AND_SET @ends 1 @out
+nothing found: all 12 states
+rme 1 procs 2 limit 1 cap 1
+lock 0
+lock 1
+step 1
+step 0
+unlock 1
+step 1
+starves 0 cycle 5
 @row rmelab explore --algorithm a.lock --procs 2 --starving some @ends 2 @err BAD_SIZE
 @row rmelab explore --algorithm a.lock --procs 2 --starving --moves 9 @ends 2 @err BAD_SIZE
 @row rmelab explore --algorithm a.lock --procs 3 --starving @file a.lock PETERSON @ends 2 @err BAD_SIZE

@@ -1,7 +1,9 @@
 //! Each request for memory of searches, of schedules that are shrunk, and of commands on algorithms is refused in turn.
 
 use crate::searches::named_texts::example_algorithms;
-use crate::searches::{algorithm_commands, algorithm_costs, algorithm_explores, explores, shrinks};
+use crate::searches::{
+    algorithm_commands, algorithm_costs, algorithm_explores, algorithm_exports, explores, shrinks,
+};
 use crate::support::invocation::all_meet_refusals;
 use std::test::Fail;
 
@@ -18,6 +20,7 @@ nothing found within 3 moves
 @row rmelab explore --algorithm a.lock --procs 1 --stuck --limit 1 --crashes 1 @file a.lock ONE_WORD @out LEFT_HELD @ends 1
 @row rmelab cost --algorithm a.lock --model write-through --procs 1 --limit 1 @file a.lock ONE_WORD @out ALONE_COSTS
 @row rmelab cost --algorithm a.lock --model dsm --procs 1 --limit 1 --crashes 1 @file a.lock ONE_WORD @out SPINS @ends 1
+@row rmelab export --promela a.lock --procs 2 --limit 1 --crashes 1 @file a.lock PETERSON @out PETERSON_MODEL
 @row rmelab explore --algorithm a.lock --procs 2 --cap 1 @ends 2 @err NO_MAILBOX
 @row rmelab explore --procs 2 @ends 2 @err NO_LOCK
 @row rmelab hunt --algorithm a.lock --seed 1 --rounds 1 --steps 3 @file a.lock PETERSON @out
@@ -36,11 +39,13 @@ undo
 #[test]
 fn out_of_memory(rt: HostRuntime) -> Result<(), Fail> {
     let algorithms = example_algorithms(rt.alloc())?;
+    let models = algorithm_exports::models(rt.alloc())?;
     all_meet_refusals(
         &rt,
         rt.alloc(),
         &[
             algorithms.as_str(),
+            models.as_str(),
             algorithm_commands::TEXTS,
             algorithm_costs::TEXTS,
             algorithm_explores::TEXTS,

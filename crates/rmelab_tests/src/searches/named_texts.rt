@@ -1,6 +1,6 @@
 //! The texts of algorithms that the rows name.
 
-use algorithms_tests::texts::{bakeries, others};
+use algorithms_tests::texts::{bakeries, others, promises};
 use std::alloc::Global;
 use std::test::Fail;
 
@@ -25,13 +25,15 @@ error: there is neither '--variant <V>' nor '--algorithm <FILE>'
 For more information, try '--help'.
 ";
 
-const ALGORITHMS: [(&str, &[u8]); 6] = [
+const ALGORITHMS: [(&str, &[u8]); 8] = [
     ("PETERSON", others::PETERSON),
     ("ONE_WORD", others::ONE_WORD),
     ("NO_LOOK", bakeries::NO_LOOK),
     ("BAKERY_RUIN", bakeries::BAKERY_RUIN),
     ("BAKERY_1974", others::BAKERY_1974),
     ("BURNS", others::BURNS),
+    ("FREE_TEST_AND_SET", promises::FREE_TEST_AND_SET),
+    ("FAIR_TEST_AND_SET", promises::FAIR_TEST_AND_SET),
 ];
 
 /// A script of the texts of algorithms.

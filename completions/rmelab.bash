@@ -3,7 +3,7 @@ _rmelab() {
     local word=${COMP_WORDS[COMP_CWORD]} before=${COMP_WORDS[COMP_CWORD - 1]} names
     COMPREPLY=()
     if ((COMP_CWORD == 1)); then
-        mapfile -t COMPREPLY < <(compgen -W "replay run hunt explore cost states judge draw shrink step explain help -h --help -V --version" -- "$word")
+        mapfile -t COMPREPLY < <(compgen -W "replay run hunt explore cost export states judge draw shrink step explain help -h --help -V --version" -- "$word")
         return
     fi
     case ${COMP_WORDS[1]}:$before in
@@ -30,6 +30,7 @@ _rmelab() {
         explore:--procs) : && return ;;
         explore:--calls) : && return ;;
         explore:--crashes) : && return ;;
+        explore:--system-crashes) : && return ;;
         explore:--moves) : && return ;;
         explore:--states) : && return ;;
         explore:--limit) : && return ;;
@@ -42,8 +43,13 @@ _rmelab() {
         cost:--procs) : && return ;;
         cost:--calls) : && return ;;
         cost:--crashes) : && return ;;
+        cost:--system-crashes) : && return ;;
         cost:--states) : && return ;;
         cost:--limit) : && return ;;
+        export:--promela) mapfile -t COMPREPLY < <(compgen -f -- "$word") && return ;;
+        export:--procs) : && return ;;
+        export:--crashes) : && return ;;
+        export:--limit) : && return ;;
         states:--variant) mapfile -t COMPREPLY < <(compgen -W "right no-look no-ties renumber exit-on-crash count-up last-skipped" -- "$word") && return ;;
         states:--algorithm) mapfile -t COMPREPLY < <(compgen -f -- "$word") && return ;;
         states:--procs) : && return ;;
@@ -67,8 +73,9 @@ _rmelab() {
         replay) mapfile -t COMPREPLY < <(compgen -W "--json --each --variant --algorithm --image --save -h --help" -- "$word"; compgen -f -- "$word") ;;
         run) mapfile -t COMPREPLY < <(compgen -W "--procs --messages --crash --seed --width -h --help" -- "$word") ;;
         hunt) mapfile -t COMPREPLY < <(compgen -W "--variant --algorithm --procs --limit --seed --first-round --rounds --steps --shrink --jobs -h --help" -- "$word") ;;
-        explore) mapfile -t COMPREPLY < <(compgen -W "--variant --algorithm --procs --calls --crashes --moves --states --limit --cap --width --stuck --starving --all-variables --jobs -h --help" -- "$word") ;;
-        cost) mapfile -t COMPREPLY < <(compgen -W "--algorithm --model --super-passages --procs --calls --crashes --states --limit -h --help" -- "$word") ;;
+        explore) mapfile -t COMPREPLY < <(compgen -W "--variant --algorithm --procs --calls --crashes --system-crashes --moves --states --limit --cap --width --stuck --starving --all-variables --jobs -h --help" -- "$word") ;;
+        cost) mapfile -t COMPREPLY < <(compgen -W "--algorithm --model --super-passages --procs --calls --crashes --system-crashes --states --limit -h --help" -- "$word") ;;
+        export) mapfile -t COMPREPLY < <(compgen -W "--promela --procs --crashes --limit -h --help" -- "$word") ;;
         states) mapfile -t COMPREPLY < <(compgen -W "--variant --algorithm --procs --calls --crashes --limit --cap --width --words --digits --part --parts -h --help" -- "$word"; compgen -f -- "$word") ;;
         judge) mapfile -t COMPREPLY < <(compgen -W "--json -h --help" -- "$word"; compgen -f -- "$word") ;;
         draw) mapfile -t COMPREPLY < <(compgen -W "--variant --algorithm --image --svg --html -h --help" -- "$word"; compgen -f -- "$word") ;;

@@ -14,7 +14,7 @@ use Rattle.cli.specs.declared.arguments.args.AlgorithmHuntArgs.{AlgorithmHuntArg
 use Rattle.cli.specs.declared.arguments.args.CostArgs.{CostArgs}
 use Rattle.cli.specs.declared.arguments.args.ExploreArgs.{ExploreArgs}
 use Rattle.cli.specs.declared.arguments.args.AlgorithmExploreArgs.{AlgorithmExploreArgs}
-use Rattle.cli.specs.declared.arguments.args.Command.TheVariants.{Replay, ReplayAlgorithm, Run, Hunt, HuntAlgorithm, Explore, ExploreAlgorithm, Cost, States, StatesAlgorithm, Judge, Draw, DrawAlgorithm, Shrink, ShrinkAlgorithm, Step, StepAlgorithm, Explain}
+use Rattle.cli.specs.declared.arguments.args.Command.TheVariants.{Replay, ReplayAlgorithm, Run, Hunt, HuntAlgorithm, Explore, ExploreAlgorithm, Cost, Export, States, StatesAlgorithm, Judge, Draw, DrawAlgorithm, Shrink, ShrinkAlgorithm, Step, StepAlgorithm, Explain}
 use Rattle.cli.specs.declared.arguments.words.WordsFault.{WordsFault}
 use Rattle.cli.specs.declared.arguments.words.WordsFault.TheVariants.{Help, Refused, BadVariant, BadSize, Unreadable, OutOfMemory}
 use Rattle.cli.specs.CommandLine.{rmelab}
@@ -110,6 +110,7 @@ good_variant name given (States args) h (inr bad) = variant_asked given args.sea
 good_variant name given (StatesAlgorithm args) h (inl bad) = takes_no_image (codes "states") name h.0 refl refl bad.0
 good_variant name given (StatesAlgorithm args) h (inr bad) = no_both (first_of (codes "variant") given) h.1.search.no_variant bad.1.0
 good_variant name given (Cost args) h bad = neither (codes "cost") name given h.0 refl refl refl refl refl refl bad
+good_variant name given (Export args) h bad = neither (codes "export") name given h.0 refl refl refl refl refl refl bad
 good_variant name given (Run args) h bad = neither (codes "run") name given h.0 refl refl refl refl refl refl bad
 good_variant name given (Judge file) h bad = neither (codes "judge") name given h.0 refl refl refl refl refl refl bad
 good_variant name given (Step file) h bad = neither (codes "step") name given h.0 refl refl refl refl refl refl bad
@@ -150,7 +151,8 @@ good_cycles given cycles asked unbounded (inr both) =
 good_search : (given : Given) (args : ExploreArgs) → IsExplore given args → IsBadSearch given ⊎ IsBadAlgorithmSearch given → ⊥
 good_search given args h (inl (some, inl calls)) = false≢true (sym calls ∙ h.known)
 good_search given args h (inl (some, inr (inl stuck))) = no_both (first_of (codes "moves") given) (h.unbounded (h.stuck ∙ stuck.0)) stuck.1
-good_search given args h (inl (some, inr (inr starving))) = good_cycles given args.starving h.starving h.no_bound starving
+good_search given args h (inl (some, inr (inr (inl starving)))) = good_cycles given args.starving h.starving h.no_bound starving
+good_search given args h (inl (some, inr (inr (inr together)))) = no_both (first_of (codes "system-crashes") given) h.no_system_crashes together
 good_search given args h (inr bad) = no_both (first_of (codes "algorithm") given) h.no_algorithm bad.0.algorithm
 
 good_algorithm_search : (given : Given) (args : AlgorithmExploreArgs) → IsAlgorithmExplore given args → IsBadSearch given ⊎ IsBadAlgorithmSearch given → ⊥
@@ -206,6 +208,7 @@ good_size name given (Cost args) sized h (inr (inl bad)) = other_name (codes "co
 good_size name given (Cost args) sized h (inr (inr (inl bad))) = other_name (codes "cost") (codes "explore") name h.0 refl bad.0
 good_size name given (Cost args) sized h (inr (inr (inr (inl bad)))) = other_name (codes "cost") (codes "states") name h.0 refl bad.0
 good_size name given (Cost args) sized h (inr (inr (inr (inr bad)))) = good_cost given args h.1 bad.1
+good_size name given (Export args) sized h bad = sizeless (codes "export") name given h.0 refl refl refl refl refl bad
 good_size name given (Replay args) sized h bad = sizeless (codes "replay") name given h.0 refl refl refl refl refl bad
 good_size name given (ReplayAlgorithm args) sized h bad = sizeless (codes "replay") name given h.0 refl refl refl refl refl bad
 good_size name given (Judge file) sized h bad = sizeless (codes "judge") name given h.0 refl refl refl refl refl bad
@@ -229,7 +232,8 @@ worded : (name : Text) (given : Given) → HasBadWords name given → HasBadVari
 worded name given (inl entry) bad = neither (codes "explain") name given entry.0 refl refl refl refl refl refl bad
 worded name given (inr (inl lock)) (inl bad) = not_drawn name given lock bad.0
 worded name given (inr (inl lock)) (inr bad) = no_both (first_of (codes "variant") given) lock.0 bad.1.0
-worded name given (inr (inr lacks)) bad = neither (codes "cost") name given lacks.0 refl refl refl refl refl refl bad
+worded name given (inr (inr (inl lacks))) bad = neither (codes "cost") name given lacks.0 refl refl refl refl refl refl bad
+worded name given (inr (inr (inr lacks))) bad = neither (codes "export") name given lacks.0 refl refl refl refl refl refl bad
 
 without_range : (name : Text) (given : Given) → HasNoLock name given → IsOutOfRange name given → ⊥
 without_range name given (none, inl (is, lacks)) (inl bad) = other_name (codes "explore") (codes "run") name is refl bad.0
@@ -256,11 +260,12 @@ without_range name given (none, inr (inr (inr (is, lacks)))) (inr (inr (inr (inr
 ranged : (name : Text) (given : Given) → HasBadWords name given → IsOutOfRange name given → ⊥
 ranged name given (inl entry) bad = sizeless (codes "explain") name given entry.0 refl refl refl refl refl bad
 ranged name given (inr (inl lock)) bad = without_range name given lock bad
-ranged name given (inr (inr lacks)) (inl bad) = other_name (codes "cost") (codes "run") name lacks.0 refl bad.0
-ranged name given (inr (inr lacks)) (inr (inl bad)) = other_name (codes "cost") (codes "hunt") name lacks.0 refl bad.0
-ranged name given (inr (inr lacks)) (inr (inr (inl bad))) = other_name (codes "cost") (codes "explore") name lacks.0 refl bad.0
-ranged name given (inr (inr lacks)) (inr (inr (inr (inl bad)))) = other_name (codes "cost") (codes "states") name lacks.0 refl bad.0
-ranged name given (inr (inr lacks)) (inr (inr (inr (inr bad)))) = lacks.1 bad.1.0
+ranged name given (inr (inr (inl lacks))) (inl bad) = other_name (codes "cost") (codes "run") name lacks.0 refl bad.0
+ranged name given (inr (inr (inl lacks))) (inr (inl bad)) = other_name (codes "cost") (codes "hunt") name lacks.0 refl bad.0
+ranged name given (inr (inr (inl lacks))) (inr (inr (inl bad))) = other_name (codes "cost") (codes "explore") name lacks.0 refl bad.0
+ranged name given (inr (inr (inl lacks))) (inr (inr (inr (inl bad)))) = other_name (codes "cost") (codes "states") name lacks.0 refl bad.0
+ranged name given (inr (inr (inl lacks))) (inr (inr (inr (inr bad)))) = lacks.1 bad.1.0
+ranged name given (inr (inr (inr lacks))) bad = sizeless (codes "export") name given lacks.0 refl refl refl refl refl bad
 
 both_of : (words : List Text) (P Q : Text → Given → Type 0) → TakesWords words P → TakesWords words Q → (name : Text) × (given : Given) × P name given × Q name given
 both_of words P Q p q = go (subcommand_of rmelab words) p.1 q.1
@@ -375,7 +380,7 @@ bad_algorithm given none (inr bad) = bad
 
 pub cost_refused : (given : Given) (fault : WordsFault) → IsNone (first_of (codes "variant") given) → IsFaultOfSearch given fault → IsFault (codes "cost") given fault
 cost_refused given (Help text) none h = absurd h
-cost_refused given (Refused text) none h = inr (inr (refl, λ is. h.1 is.search))
+cost_refused given (Refused text) none h = inr (inr (inl (refl, λ is. h.1 is.search)))
 cost_refused given BadVariant none h = absurd (no_both (first_of (codes "variant") given) none h.0)
 cost_refused given BadSize none h =
     let bad = bad_algorithm given none h.1 in (no_bad_variant given, inr (inr (inr (inr (refl, (record { search = bad.0; no_variant = none }, inl bad))))))

@@ -28,21 +28,22 @@ pub simple_and_free : is_simple_and_free rmelab ≡ true
 simple_and_free = refl
 
 -- a text that is no command's name is none of the table's
-pub unknown : (name : Text) → IsName name → name ≢ codes "replay" → name ≢ codes "run" → name ≢ codes "hunt" → name ≢ codes "explore" → name ≢ codes "cost" → name ≢ codes "states" → name ≢ codes "judge"
+pub unknown : (name : Text) → IsName name → name ≢ codes "replay" → name ≢ codes "run" → name ≢ codes "hunt" → name ≢ codes "explore" → name ≢ codes "cost" → name ≢ codes "export" → name ≢ codes "states" → name ≢ codes "judge"
     → name ≢ codes "draw" → name ≢ codes "shrink" → name ≢ codes "step" → name ≢ codes "explain" → ⊥
-unknown name is replay run hunt explore cost states judge draw shrink step explain =
+unknown name is replay run hunt explore cost export states judge draw shrink step explain =
     let no_replay = is_other (codes "replay") name (λ e. replay (sym e)) in
     let no_run = is_other (codes "run") name (λ e. run (sym e)) in
     let no_hunt = is_other (codes "hunt") name (λ e. hunt (sym e)) in
     let no_explore = is_other (codes "explore") name (λ e. explore (sym e)) in
     let no_cost = is_other (codes "cost") name (λ e. cost (sym e)) in
+    let no_export = is_other (codes "export") name (λ e. export (sym e)) in
     let no_states = is_other (codes "states") name (λ e. states (sym e)) in
     let no_judge = is_other (codes "judge") name (λ e. judge (sym e)) in
     let no_draw = is_other (codes "draw") name (λ e. draw (sym e)) in
     let no_shrink = is_other (codes "shrink") name (λ e. shrink (sym e)) in
     let no_step = is_other (codes "step") name (λ e. step (sym e)) in
     let no_explain = is_other (codes "explain") name (λ e. explain (sym e)) in
-    false≢true (rw (no_replay, no_run, no_hunt, no_explore, no_cost, no_states, no_judge, no_draw, no_shrink, no_step, no_explain) at is)
+    false≢true (rw (no_replay, no_run, no_hunt, no_explore, no_cost, no_export, no_states, no_judge, no_draw, no_shrink, no_step, no_explain) at is)
 
 -- ---- what `clap` found
 

@@ -94,13 +94,17 @@ hunt = part (codes "hunt") (
 abbrev pub explore : Shape
 explore = part (codes "explore") (
     variant ∷ algorithm ∷ required_rule (number (codes "procs")) ∷ option (codes "calls") ∷ number (codes "crashes")
-    ∷ number (codes "moves") ∷ number (codes "states") ∷ number (codes "limit") ∷ number (codes "cap") ∷ number (codes "width")
+    ∷ number (codes "system-crashes") ∷ number (codes "moves") ∷ number (codes "states") ∷ number (codes "limit") ∷ number (codes "cap") ∷ number (codes "width")
     ∷ flag (codes "stuck") ∷ starving ∷ flag (codes "all-variables") ∷ number (codes "jobs") ∷ [])
 
 abbrev pub cost : Shape
 cost = part (codes "cost") (
     required_rule algorithm ∷ required_rule (option (codes "model")) ∷ flag (codes "super-passages") ∷ required_rule (number (codes "procs"))
-    ∷ option (codes "calls") ∷ number (codes "crashes") ∷ number (codes "states") ∷ number (codes "limit") ∷ [])
+    ∷ option (codes "calls") ∷ number (codes "crashes") ∷ number (codes "system-crashes") ∷ number (codes "states") ∷ number (codes "limit") ∷ [])
+
+abbrev pub export : Shape
+export = part (codes "export") (
+    required_rule (option (codes "promela")) ∷ required_rule (number (codes "procs")) ∷ number (codes "crashes") ∷ number (codes "limit") ∷ [])
 
 abbrev pub states : Shape
 states = part (codes "states") (
@@ -133,6 +137,7 @@ shape_of_part parts.Run = run
 shape_of_part parts.Hunt = hunt
 shape_of_part parts.Explore = explore
 shape_of_part parts.Cost = cost
+shape_of_part parts.Export = export
 shape_of_part parts.States = states
 shape_of_part parts.Judge = judge
 shape_of_part parts.Draw = draw
@@ -148,7 +153,7 @@ with_subcommands app (shape ∷ shapes) = with_subcommands (with_subcommand app 
 abbrev pub rmelab : App
 rmelab = record {
   top = record head { is_leaf = false };
-  subs = replay ∷ run ∷ hunt ∷ explore ∷ cost ∷ states ∷ judge ∷ draw ∷ shrink ∷ step ∷ explain ∷ [];
+  subs = replay ∷ run ∷ hunt ∷ explore ∷ cost ∷ export ∷ states ∷ judge ∷ draw ∷ shrink ∷ step ∷ explain ∷ [];
 }
 
 -- the parser reads this command line, and no argument of a command is one of the others too

@@ -10,7 +10,7 @@ use Rattle.clap.specs.declared.error.kind.ErrorKind.TheVariants as kinds
 use Rattle.crashlab.specs.declared.variants.variant.Variant.{Variant}
 use Rattle.crashlab.specs.declared.variants.variant.Variant.TheVariants.{Right}
 use Rattle.cli.specs.declared.arguments.args.Command.{Command}
-use Rattle.cli.specs.declared.arguments.args.Command.TheVariants.{Replay, ReplayAlgorithm, Run, Hunt, HuntAlgorithm, Explore, ExploreAlgorithm, Cost, States, StatesAlgorithm, Judge, Draw, DrawAlgorithm, Shrink, ShrinkAlgorithm, Step, StepAlgorithm, Explain}
+use Rattle.cli.specs.declared.arguments.args.Command.TheVariants.{Replay, ReplayAlgorithm, Run, Hunt, HuntAlgorithm, Explore, ExploreAlgorithm, Cost, Export, States, StatesAlgorithm, Judge, Draw, DrawAlgorithm, Shrink, ShrinkAlgorithm, Step, StepAlgorithm, Explain}
 use Rattle.cli.specs.declared.arguments.args.ReplayArgs.{ReplayArgs}
 use Rattle.cli.specs.declared.arguments.args.AlgorithmReplayArgs.{AlgorithmReplayArgs}
 use Rattle.cli.specs.declared.arguments.args.RunArgs.{RunArgs}
@@ -19,6 +19,7 @@ use Rattle.cli.specs.declared.arguments.args.AlgorithmHuntArgs.{AlgorithmHuntArg
 use Rattle.cli.specs.declared.arguments.args.ExploreArgs.{ExploreArgs}
 use Rattle.cli.specs.declared.arguments.args.AlgorithmExploreArgs.{AlgorithmExploreArgs}
 use Rattle.cli.specs.declared.arguments.args.CostArgs.{CostArgs}
+use Rattle.cli.specs.declared.arguments.args.ExportArgs.{ExportArgs}
 use Rattle.cli.specs.declared.arguments.args.StreamArgs.{StreamArgs}
 use Rattle.cli.specs.declared.arguments.args.StatesArgs.{StatesArgs}
 use Rattle.cli.specs.declared.arguments.args.AlgorithmStatesArgs.{AlgorithmStatesArgs}
@@ -124,6 +125,7 @@ pub record IsExplore (given : Given) (args : ExploreArgs) : Type 0 where
   -- a search for stuck states or for starvation has no bound on moves
   pub unbounded : args.stuck ≡ true → IsNone (first_of (codes "moves") given)
   pub no_bound : IsSome args.starving → IsNone (first_of (codes "moves") given)
+  pub no_system_crashes : IsNone (first_of (codes "system-crashes") given)
   pub no_algorithm : IsNone (first_of (codes "algorithm") given)
 
 -- an algorithm is given to a search, and no option that its search does not have
@@ -141,6 +143,7 @@ pub record IsAlgorithmExplore (given : Given) (args : AlgorithmExploreArgs) : Ty
   pub calls : args.calls ≡ algorithm_calls_in given
   pub known : are_algorithm_calls given ≡ true
   pub crashes : args.crashes ≡ number_or 0 (codes "crashes") given
+  pub system_crashes : args.system_crashes ≡ number_or 0 (codes "system-crashes") given
   pub moves : args.moves ≡ number_or 18446744073709551615 (codes "moves") given
   pub states : args.states ≡ number_or 10000000 (codes "states") given
   pub limit : args.limit ≡ number_or 4 (codes "limit") given
@@ -161,6 +164,13 @@ pub record AsksForCost (given : Given) (args : CostArgs) : Type 0 where
   pub search : IsAlgorithmExplore given args.search
   pub model : AsksForModel given args.model
   pub kind : args.kind ≡ kind_asked given
+
+-- the model of an algorithm, its sizes, and how many crashes may come
+pub record AsksForModelOf (given : Given) (args : ExportArgs) : Type 0 where
+  pub algorithm : Some (string_bytes args.algorithm) ≡ first_of (codes "promela") given
+  pub procs : args.procs ≡ number_or 0 (codes "procs") given
+  pub limit : args.limit ≡ number_or 4 (codes "limit") given
+  pub crashes : args.crashes ≡ number_or 0 (codes "crashes") given
 
 -- what is done with lines of states, and their form
 pub record IsStream (given : Given) (args : StreamArgs) : Type 0 where
@@ -223,6 +233,7 @@ IsCommand name given (HuntAlgorithm args) = (name ≡ codes "hunt") × IsAlgorit
 IsCommand name given (Explore args) = (name ≡ codes "explore") × IsExplore given args
 IsCommand name given (ExploreAlgorithm args) = (name ≡ codes "explore") × IsAlgorithmExplore given args
 IsCommand name given (Cost args) = (name ≡ codes "cost") × AsksForCost given args
+IsCommand name given (Export args) = (name ≡ codes "export") × AsksForModelOf given args
 IsCommand name given (States args) = (name ≡ codes "states") × IsStates given args
 IsCommand name given (StatesAlgorithm args) = (name ≡ codes "states") × IsAlgorithmStates given args
 IsCommand name given (Judge args) = (name ≡ codes "judge") × IsJudge given args
@@ -270,10 +281,12 @@ IsStuckWithin given = (is_set (codes "stuck") given ≡ true) × IsSome (first_o
 abbrev pub IsBadStarving : Given → Type 0
 IsBadStarving given = AsksForNoCycles given ⊎ (IsSome (first_of (codes "starving") given) × IsSome (first_of (codes "moves") given))
 
--- a call of a variant's search is none, or its bound on moves is one too many, or its cycles have no name
+-- a call of a variant's search is none, or its bound on moves is one too many, or its cycles have no name, or crashes of all are
+-- asked for
 abbrev pub IsBadSearch : Given → Type 0
 IsBadSearch given =
-    IsSome (first_of (codes "variant") given) × ((list_all is_call (calls_of given) ≡ false) ⊎ (IsStuckWithin given ⊎ IsBadStarving given))
+    IsSome (first_of (codes "variant") given)
+    × ((list_all is_call (calls_of given) ≡ false) ⊎ (IsStuckWithin given ⊎ (IsBadStarving given ⊎ IsSome (first_of (codes "system-crashes") given))))
 
 -- a call of an algorithm's search is none of an algorithm, or the same of its bound and its cycles
 abbrev pub IsBadAlgorithmSearch : Given → Type 0
@@ -330,9 +343,13 @@ HasNoLock name given = IsNone (first_of (codes "variant") given)
 abbrev pub HasNoAlgorithm : Text → Given → Type 0
 HasNoAlgorithm name given = (name ≡ codes "cost") × (IsCostSearch given → ⊥)
 
+-- there is no algorithm whose model is asked for
+abbrev pub HasNoExport : Text → Given → Type 0
+HasNoExport name given = (name ≡ codes "export") × IsNone (first_of (codes "promela") given)
+
 -- words that `clap` takes are refused as it refuses words
 abbrev pub HasBadWords : Text → Given → Type 0
-HasBadWords name given = HasNoEntry name given ⊎ (HasNoLock name given ⊎ HasNoAlgorithm name given)
+HasBadWords name given = HasNoEntry name given ⊎ (HasNoLock name given ⊎ (HasNoAlgorithm name given ⊎ HasNoExport name given))
 
 -- out of memory comes at any time
 abbrev pub IsFault : Text → Given → WordsFault → Type 0

@@ -5,6 +5,7 @@ mod argument;
 mod cost_words;
 mod draw_words;
 mod explore_words;
+mod export_words;
 mod hunt_words;
 mod parser;
 mod replay_words;

@@ -1,4 +1,5 @@
 pub mod AlgorithmCosts
+pub mod AlgorithmExports
 pub mod AlgorithmExplores
 pub mod AlgorithmHunts
 pub mod AlgorithmPaths

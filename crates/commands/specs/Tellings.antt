@@ -1,6 +1,5 @@
 -- What is written of a schedule's run, on the machine that is asked for: a drawing, the run step by step, or its report.
 use Rattle.std.specs.Prelude.{◌≡◌, ◌≢◌, ◌⊎◌, ℕ, ◌+◌, ◌-◌, ◌^◌, min, Bool, true, false, List, Option, Some, None, Result, Ok, Err, IfOk, IfSome, IsOk}
-use Rattle.std.proofs.Math.ListN.{replicate}
 use Rattle.crashlab.specs.declared.variants.variant.Variant.{Variant}
 use Rattle.crashlab.specs.declared.variants.variant.Variant.TheVariants.{Right}
 use Rattle.crashlab.specs.variants.VariantWorlds as variants
@@ -12,7 +11,8 @@ use Rattle.diagram.specs.declared.phase.LifelinePhase.TheVariants.{Rest, Dead}
 use Rattle.diagram.specs.declared.diagram_layout.Style.{Style}
 use Rattle.diagram.specs.Drawings.{diagram_layout_of, drawing_text}
 use Rattle.diagram.specs.Events.{DiagramEvent, events_on}
-use Rattle.diagram.specs.Followed.{run_text, FollowsRun}
+use Rattle.diagram.specs.Followed.{FollowsRun}
+use Rattle.diagram.specs.MarkedRuns.{marked_run_text}
 use Rattle.diagram.specs.Pages.{page_text}
 use Rattle.diagram.specs.Rows.{events_in, EndsAs, IsJudged}
 use Rattle.diagram.specs.StepLines.{FollowsAsLines, step_lines}
@@ -144,7 +144,7 @@ AnswersRun true true start before now answer =
     (step_lines (head_of start.schedule) start.phase (start.machine.image_of start.first) (run_events start)) answer
 AnswersRun true false start before now answer =
     FollowsRun before now start.judged start.machine.image_of (run_of start)
-    (run_text (sizes_of (head_of start.schedule)) (replicate start.schedule.procs start.phase) (run_events start)) answer
+    (marked_run_text (sizes_of (head_of start.schedule)) start.phase (run_events start)) answer
 AnswersRun false true start before now answer = ReplaysObject before now start.judged start.machine.image_of (run_of start) answer
 AnswersRun false false start before now answer = Replays before now start.judged start.machine.image_of (run_of start) answer
 

@@ -16,8 +16,8 @@ use crate::schedules::fault::CommandFault;
 use crate::schedules::findings::tell_text;
 use crate::schedules::line::{cost_line, unbounded_line};
 use algorithm_explorer::{
-    AlgorithmCost, AlgorithmExploreFault, AlgorithmMove, CostQuestion, CostlySchedule, Lasso,
-    algorithm_cost,
+    AlgorithmCost, AlgorithmExploreFault, AlgorithmMove, CostQuestion, CostlySchedule, CrashesLeft,
+    Lasso, algorithm_cost,
 };
 use algorithms::InitializedAlgorithm;
 use cli::arguments::args::CostArgs;
@@ -104,7 +104,10 @@ fn tell_costs<S: Screen, W: Sink>(
         algorithm,
         args.search.procs,
         args.search.limit,
-        Some(args.search.crashes),
+        CrashesLeft {
+            alone: Some(args.search.crashes),
+            together: args.search.system_crashes,
+        },
         &calls,
         question_of(args),
         args.search.states,

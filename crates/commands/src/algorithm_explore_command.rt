@@ -1,7 +1,7 @@
 //! The command `explore` on an algorithm's text.
 
 ghost use Rattle.std.specs.Prelude.{◌≡◌, false, unwrap_or, IfErr, IfOk, OnOk, option_copied};
-ghost use Rattle.commands.specs.AlgorithmExplores.{AlgorithmExploreEnds, BothEnd, ShortestEnds, StarvingEnds, StuckEnds, all_line_but, ExploresAlgorithm, calls_had as had_calls, calls_of as calls_asked, schedule_of as schedule_by};
+ghost use Rattle.commands.specs.AlgorithmExplores.{AlgorithmExploreEnds, BothEnd, ShortestEnds, StarvingEnds, StuckEnds, all_line_but, ExploresAlgorithm, calls_had as had_calls, calls_listed as listed_calls, calls_of as calls_asked, schedule_of as schedule_by, searches_progress as progress_searched};
 ghost use Rattle.commands.specs.AlgorithmFindings.{line_by, world_call};
 ghost use Rattle.commands.specs.Endings.{IsEnded, Prints};
 ghost use Rattle.schedule.specs.Schedules.{spelling};
@@ -19,10 +19,10 @@ use crate::schedules::fault::CommandFault;
 use crate::schedules::findings::{tell_schedule, tell_text};
 use crate::schedules::line::left_out_line;
 use algorithm_explorer::{
-    AlgorithmBounds, AlgorithmExploreFault, AlgorithmMove, LeftOut, SearchOutcome,
+    AlgorithmBounds, AlgorithmExploreFault, AlgorithmMove, CrashesLeft, LeftOut, SearchOutcome,
     shortest_algorithm_schedule_in_parallel,
 };
-use algorithms::{AlgorithmCall, Entries, InitializedAlgorithm};
+use algorithms::{AlgorithmCall, Entries, InitializedAlgorithm, ProgressPromise};
 use cli::arguments::args::{AlgorithmCalls, AlgorithmExploreArgs, Cycles};
 use rmeworld::Call as WorldCall;
 use schedule::{Count, Line, Schedule, Sink};
@@ -30,7 +30,7 @@ use std::alloc::{AllocError, Global};
 use std::thread::Threads;
 
 /// The calls that a text has.
-fn calls_had(entries: &Entries) -> AlgorithmCalls
+pub(crate) fn calls_had(entries: &Entries) -> AlgorithmCalls
     ensures { result ≡ had_calls entries.now }
 {
     AlgorithmCalls {
@@ -54,7 +54,22 @@ pub(crate) fn asked_calls(
     }
 }
 
-/// The calls that the search starts, always in this order.
+/// These calls, always in this order.
+pub(crate) fn calls_listed(
+    alloc: Global,
+    asked: AlgorithmCalls,
+) -> Result<Vec<AlgorithmCall>, AllocError>
+    ensures { IfOk result (λ calls. calls.items ≡ listed_calls asked) }
+{
+    let mut calls = Vec::new(alloc);
+    put_call(&mut calls, asked.lock, AlgorithmCall::Lock)?;
+    put_call(&mut calls, asked.unlock, AlgorithmCall::Unlock)?;
+    put_call(&mut calls, asked.recover, AlgorithmCall::Recover)?;
+    put_call(&mut calls, asked.withdraw, AlgorithmCall::Withdraw)?;
+    Ok(calls)
+}
+
+/// The calls that the search starts.
 pub(crate) fn calls_of(
     alloc: Global,
     algorithm: &InitializedAlgorithm,
@@ -62,13 +77,7 @@ pub(crate) fn calls_of(
 ) -> Result<Vec<AlgorithmCall>, AllocError>
     ensures { IfOk result (λ calls. calls.items ≡ calls_asked algorithm.now args.now) }
 {
-    let asked = asked_calls(algorithm, args);
-    let mut calls = Vec::new(alloc);
-    put_call(&mut calls, asked.lock, AlgorithmCall::Lock)?;
-    put_call(&mut calls, asked.unlock, AlgorithmCall::Unlock)?;
-    put_call(&mut calls, asked.recover, AlgorithmCall::Recover)?;
-    put_call(&mut calls, asked.withdraw, AlgorithmCall::Withdraw)?;
-    Ok(calls)
+    calls_listed(alloc, asked_calls(algorithm, args))
 }
 
 /// A call as one of a schedule.
@@ -91,6 +100,7 @@ fn line_of_move(made: &AlgorithmMove) -> Line
         AlgorithmMove::Start(p, call) => Line::Start(p, world_call(call)),
         AlgorithmMove::Step(p) => Line::Step(p, Count::ONE),
         AlgorithmMove::Crash(p) => Line::Crash(p),
+        AlgorithmMove::CrashAll => Line::CrashAll,
     }
 }
 
@@ -169,7 +179,10 @@ fn tell_shortest<T: Threads + Sync, S: Screen, W: Sink>(
         algorithm,
         args.procs,
         args.limit,
-        Some(args.crashes),
+        CrashesLeft {
+            alone: Some(args.crashes),
+            together: args.system_crashes,
+        },
         &calls,
         &bounds,
         &mut meter,
@@ -187,7 +200,8 @@ fn tell_shortest<T: Threads + Sync, S: Screen, W: Sink>(
     }
 }
 
-/// Reads the algorithm from its text, and writes the schedule of fewest moves that goes wrong, or that there is none.
+/// Reads the algorithm from its text, and writes the schedule of fewest moves that goes wrong, or that there is none. Where the text
+/// promises progress, and none was found with no bound on the moves, it writes then what `--starving` does, and reads the text again.
 #[tactic(auto, using(crate::proofs::AlgorithmTexts::no_algorithm_alone))]
 fn search_shortest<T: Threads + Sync, S: Screen, W: Sink>(
     rt: &T,
@@ -201,7 +215,12 @@ fn search_shortest<T: Threads + Sync, S: Screen, W: Sink>(
     ensures ended { IfOk result (IsEnded false (W.tape w.old).failures (W.tape w.new).failures) }
 {
     let algorithm = algorithm_read(alloc, text)?;
-    tell_shortest(rt, alloc, algorithm, args, screen, w)
+    let progress = algorithm.algorithm.promises.progress;
+    let first = tell_shortest(rt, alloc, algorithm, args, screen, w)?;
+    if searches_progress(progress, args, first.status) {
+        return search_starving(alloc, args, text, Cycles::Nobody, screen, w);
+    }
+    Ok(first)
 }
 
 /// The same with `--stuck`: the schedule that goes wrong, or else the one of fewest moves to a stuck state.
@@ -237,6 +256,17 @@ fn search_starving<S: Screen, W: Sink>(
     tell_starving(alloc, algorithm, args, cycles, screen, w)
 }
 
+/// Whether the text promises progress, and the search ended with this status: nothing was found, with no bound on the moves.
+fn searches_progress(
+    progress: Option<ProgressPromise>,
+    args: &AlgorithmExploreArgs,
+    status: u8,
+) -> bool
+    ensures { result ≡ progress_searched progress args.now status }
+{
+    progress.is_some() && (status == 0 && args.moves == u64::MAX)
+}
+
 /// Writes what the search for stuck states has found, and then what the one for a process that starves has. Each reads the text.
 fn search_both<S: Screen, W: Sink>(
     alloc: Global,
@@ -258,7 +288,8 @@ fn search_both<S: Screen, W: Sink>(
 }
 
 /// Runs `explore --algorithm`: reads the algorithm from its text, searches its schedules, and writes the schedule of fewest moves that
-/// goes wrong, or that there is none; with `--stuck` also one to a stuck state, and with `--starving` one in which a process starves,
+/// goes wrong, or that there is none, and then, where the text promises progress and the moves have no bound, what `--starving` finds;
+/// with `--stuck` also one to a stuck state, and with `--starving` one in which a process starves,
 /// both in this thread. Progress is shown on the screen. `Algorithm`: the text's fault. `BadSize`: the algorithm is not for this
 /// number of processes, or the limit is outside its range. `TooManyStates`: the search reached more states than it may keep.
 pub fn algorithm_explore_command<T: Threads + Sync, S: Screen, W: Sink>(

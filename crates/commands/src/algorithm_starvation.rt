@@ -14,7 +14,8 @@ use crate::schedules::ending::Ending;
 use crate::schedules::fault::CommandFault;
 use crate::starvation::{is_any, tell_never_starving, tell_starves};
 use algorithm_explorer::{
-    AlgorithmExploreFault, AlgorithmMove, Lasso, StarvingOutcome, starving_algorithm_schedule,
+    AlgorithmExploreFault, AlgorithmMove, CrashesLeft, Lasso, StarvingOutcome,
+    starving_algorithm_schedule,
 };
 use algorithms::InitializedAlgorithm;
 use cli::arguments::args::{AlgorithmExploreArgs, Cycles};
@@ -58,7 +59,10 @@ pub(crate) fn tell_starving<S: Screen, W: Sink>(
         algorithm,
         args.procs,
         args.limit,
-        Some(args.crashes),
+        CrashesLeft {
+            alone: Some(args.crashes),
+            together: args.system_crashes,
+        },
         &calls,
         is_any(cycles),
         args.states,

@@ -11,7 +11,9 @@ use crate::progress::work::Work;
 use crate::schedules::ending::Ending;
 use crate::schedules::fault::CommandFault;
 use crate::stuck::tell_never;
-use algorithm_explorer::{AlgorithmExploreFault, StuckOutcome, stuck_algorithm_schedule};
+use algorithm_explorer::{
+    AlgorithmExploreFault, CrashesLeft, StuckOutcome, stuck_algorithm_schedule,
+};
 use algorithms::InitializedAlgorithm;
 use cli::arguments::args::AlgorithmExploreArgs;
 use schedule::Sink;
@@ -36,7 +38,10 @@ pub(crate) fn tell_stuck<S: Screen, W: Sink>(
         algorithm,
         args.procs,
         args.limit,
-        Some(args.crashes),
+        CrashesLeft {
+            alone: Some(args.crashes),
+            together: args.system_crashes,
+        },
         &calls,
         args.states,
         &mut meter,

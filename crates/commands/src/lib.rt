@@ -5,6 +5,7 @@
 
 pub mod algorithm_cost_command;
 pub mod algorithm_explore_command;
+pub mod algorithm_export_command;
 pub mod algorithm_fault;
 pub mod algorithm_hunt_command;
 mod algorithm_starvation;

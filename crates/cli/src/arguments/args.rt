@@ -149,8 +149,10 @@ pub struct AlgorithmExploreArgs {
     pub procs: u64,
     /// Without it: the calls that the text has.
     pub calls: Option<AlgorithmCalls>,
-    /// The most crashes of a schedule.
+    /// The most crashes of a process alone in a schedule.
     pub crashes: u64,
+    /// The most crashes of all processes at once.
+    pub system_crashes: u64,
     /// The most moves of a schedule.
     pub moves: u64,
     /// The most states that are kept.
@@ -171,6 +173,16 @@ pub struct CostArgs {
     pub search: AlgorithmExploreArgs,
     pub model: MemoryModel,
     pub kind: PassageKind,
+}
+
+/// `export`: writes the model of an algorithm in another tool's language.
+#[derive(Debug, Drop, PartialEq, Eq)]
+pub struct ExportArgs {
+    /// The file of the algorithm.
+    pub algorithm: String,
+    pub procs: u64,
+    pub limit: u64,
+    pub crashes: u64,
 }
 
 /// What `states` does with lines of states.
@@ -293,6 +305,7 @@ pub enum Command {
     Explore(ExploreArgs),
     ExploreAlgorithm(AlgorithmExploreArgs),
     Cost(CostArgs),
+    Export(ExportArgs),
     States(StatesArgs),
     StatesAlgorithm(AlgorithmStatesArgs),
     Judge(JudgeArgs),
@@ -338,6 +351,7 @@ impl Command {
             Command::HuntAlgorithm(args) => Some(&args.algorithm),
             Command::ExploreAlgorithm(args) => Some(&args.algorithm),
             Command::Cost(args) => Some(&args.search.algorithm),
+            Command::Export(args) => Some(&args.algorithm),
             Command::StatesAlgorithm(args) => Some(&args.search.algorithm),
             Command::Draw(args) => args.image.as_ref(),
             Command::DrawAlgorithm(args) => Some(&args.algorithm),

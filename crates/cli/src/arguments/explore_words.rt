@@ -232,6 +232,7 @@ pub(crate) fn algorithm_search(
         procs: number_of(matches, "procs"),
         calls,
         crashes: number_of(matches, "crashes"),
+        system_crashes: number_of(matches, "system-crashes"),
         moves: number_or(matches, "moves", u64::MAX),
         states: number_or(matches, "states", 10_000_000),
         limit: number_or(matches, "limit", 4),
@@ -255,8 +256,12 @@ pub(crate) fn variant_search(
             text: without_lock(alloc)?,
         });
     }
+    let variant = variant_of(matches, "")?;
+    if is_given(matches, "system-crashes") {
+        return Err(WordsFault::BadSize);
+    }
     Ok(ExploreArgs {
-        variant: variant_of(matches, "")?,
+        variant,
         procs: number_of(matches, "procs"),
         calls: alphabet_of(alloc, matches)?,
         crashes: number_of(matches, "crashes"),

@@ -1,7 +1,7 @@
 //! The command line for `clap`: its commands, their options and their help.
 
 ghost use Rattle.std.specs.Prelude.{map, IfOk};
-ghost use Rattle.cli.specs.CommandLine.{IsParser, app_of_shape, part, shape_of_part, with_subcommands, rule_of_argument, head, replay, run, hunt, explore, cost, states, judge, draw, shrink, step, explain, rmelab};
+ghost use Rattle.cli.specs.CommandLine.{IsParser, app_of_shape, part, shape_of_part, with_subcommands, rule_of_argument, head, replay, run, hunt, explore, cost, export, states, judge, draw, shrink, step, explain, rmelab};
 
 use crate::arguments::argument::{Argument, ArgumentForm};
 use clap::Command as Parser;
@@ -33,35 +33,37 @@ fault of the words or the algorithm, 3 after a fault of a device or of memory.\n
 no-look --seed 1 --rounds 10000 --steps 1000";
 
 const EXPLORE_HELP: &str =
-    "In: nothing; with --algorithm the algorithm's text: docs/use/algorithms.md. All schedules are tried whose moves \
-are the start of a call of --calls, one step, or a crash, of which there are at most --crashes: the shorter before \
-the longer. Two worlds are one state if their words, their processes, the judge and the crashes left are the same; \
-with --starving the judge is left out. Of a process those variables count that a move may still read; all do with \
---all-variables or, of a variant, --stuck or --starving.\nOut: the schedule of fewest moves that goes wrong, which \
-`rmelab replay` with the same --variant or --algorithm replays to its fault; `nothing found within K moves`; or, if \
-all was tried, `nothing found: all N states`; of an algorithm with moves to values out of range `nothing found: all \
-N states, M moves left out from line L`. With --stuck, if none goes wrong: the schedule of fewest moves to a state \
-from which no starts and steps bring each process to rest with all lock words 0, unless by an unlock that ruins the \
-lock, or, of an algorithm, to rest outside and not in line; it replays to a fine verdict; or `never stuck: all N \
-states`. With --starving, whatever goes wrong: a schedule of fewest moves that ends with a cycle in which a process \
-starves, and the line `starves P cycle K`: process P, in the last K moves; or `never starving: all N states`. With \
---stuck and --starving: both. Nothing is said of a greater size, limit or number of crashes.\nShown: on standard \
-error, if that is a terminal, the states, how many moves deep and the states a second, once a second while it \
-works.\nExit status: 0 if nothing was found, 1 if a schedule was, 2 after a fault of the words or the algorithm, 3 \
-after one of a device or of memory, or if there are more states than --states.\n\nExample: rmelab explore --variant \
-no-look --procs 2";
+    "In: nothing; with --algorithm the algorithm's text: docs/use/algorithms.md. All schedules are tried \
+whose moves are the start of a call of --calls, one step, a crash, of which there are at most --crashes, or, of an \
+algorithm, a crash of all processes, of which there are at most --system-crashes: the shorter before the longer. Two \
+worlds are one state if their words, their processes, the judge and the crashes left are the same; with --starving \
+the judge is left out. Of a process those variables count that a move may still read; all do with --all-variables or, \
+of a variant, --stuck or --starving.\nOut: the schedule of fewest moves that goes wrong, which `rmelab replay` with \
+the same --variant or --algorithm replays to its fault; `nothing found within K moves`; or, if all was tried, \
+`nothing found: all N states`; of an algorithm with moves to values out of range `nothing found: all N states, M \
+moves left out from line L`. With --stuck, if none goes wrong: the schedule of fewest moves to a state from which no \
+starts and steps bring each process to rest with all lock words 0, unless by an unlock that ruins the lock, or, of an \
+algorithm, to rest outside and not in line; it replays to a fine verdict; or `never stuck: all N states`. With \
+--starving, whatever goes wrong: a schedule of fewest moves that ends with a cycle in which a process starves, and \
+the line `starves P cycle K`: process P, in the last K moves; or `never starving: all N states`. With --stuck and \
+--starving: both. With neither, without --moves, of an algorithm that promises \
+`deadlock freedom` or `starvation freedom`, if nothing was found: also what --starving finds. Nothing is said of a greater size, limit or number of crashes.\nShown: on standard error, if that \
+is a terminal, the states, how many moves deep and the states a second, once a second while it works.\nExit status: 0 \
+if nothing was found, 1 if a schedule was, 2 after a fault of the words or the algorithm, 3 after one of a device or \
+of memory, or if there are more states than --states.\n\nExample: rmelab explore --variant no-look --procs 2";
 
 const COST_HELP: &str =
-    "In: the algorithm's text: docs/use/algorithms.md. All its schedules are tried whose moves are the start of a call \
-of --calls, one step, or a crash, of which there are at most --crashes. A passage costs each access of its process \
-that is remote in the model: docs/dev/texts.md.\nOut: a schedule that reaches the greatest cost, and the line \
-`process P passage cost K`; or, if none is the greatest, a schedule and the line `process P passage cost unbounded \
-cycle K`: its last K moves can be made again and again, and cost something each time. With --super-passages the line \
-has `super-passage` in place of `passage`. Nothing is said of a greater size, limit or number of crashes.\nShown: on \
-standard error, if that is a terminal, the states, how many moves deep and the states a second, once a second while it \
-works.\nExit status: 0 if a cost is the greatest, 1 if none is, 2 after a fault of the words or the algorithm, 3 after \
-one of a device or of memory, or if there are more states than --states.\n\nExample: rmelab cost --algorithm \
-examples/algorithms/mcs.lock --model write-back --procs 2";
+    "In: the algorithm's text: docs/use/algorithms.md. All its schedules are tried whose moves are the start \
+of a call of --calls, one step, a crash, of which there are at most --crashes, or a crash of all processes, of which \
+there are at most --system-crashes. A passage costs each access of its process that is remote in the model: \
+docs/dev/texts.md.\nOut: a schedule that reaches the greatest cost, and the line `process P passage cost K`; or, if \
+none is the greatest, a schedule and the line `process P passage cost unbounded cycle K`: its last K moves can be \
+made again and again, and cost something each time. With --super-passages the line has `super-passage` in place of \
+`passage`. Nothing is said of a greater size, limit or number of crashes.\nShown: on standard error, if that is a \
+terminal, the states, how many moves deep and the states a second, once a second while it works.\nExit status: 0 if a \
+cost is the greatest, 1 if none is, 2 after a fault of the words or the algorithm, 3 after one of a device or of \
+memory, or if there are more states than --states.\n\nExample: rmelab cost --algorithm examples/algorithms/mcs.lock \
+--model write-back --procs 2";
 
 const STATES_HELP: &str =
     "In: nothing for first; else texts of states: a header and then a line for each state, as first writes them; with \
@@ -217,6 +219,11 @@ fn explore<'a>(alloc: Global) -> Result<Parser<'a>, AllocError>
         Argument::number("procs", "N", "1 to 64 processes").as_required(),
         Argument::text("calls", "LIST", calls),
         Argument::number("crashes", "C", "At most C crashes; 0 without it"),
+        Argument::number(
+            "system-crashes",
+            "G",
+            "At most G crashes of all processes at once; 0 without it; not with --variant",
+        ),
         Argument::number("moves", "K", "At most K moves; no bound without it"),
         Argument::number("states", "S", "At most S states; 10000000 without it"),
         Argument::number("limit", "L", "Numbers up to L; 4 without it"),
@@ -261,10 +268,37 @@ fn cost<'a>(alloc: Global) -> Result<Parser<'a>, AllocError>
         Argument::number("procs", "N", "1 to 64 processes").as_required(),
         Argument::text("calls", "LIST", calls),
         Argument::number("crashes", "C", "At most C crashes; 0 without it"),
+        Argument::number(
+            "system-crashes",
+            "G",
+            "At most G crashes of all processes at once; 0 without it",
+        ),
         Argument::number("states", "S", "At most S states; 10000000 without it"),
         Argument::number("limit", "L", "Numbers up to L; 4 without it"),
     ];
     command(alloc, "cost", about, COST_HELP, &arguments)
+}
+
+const EXPORT_HELP: &str =
+    "In: the algorithm's text: docs/use/algorithms.md.\nOut: a model in Promela of all its schedules whose moves are the start of \
+a call, one step, or a crash, of which there are at most --crashes. SPIN searches it, and finds an assertion violated where \
+the promises are broken, but for never lines and promises on calls under way: spin -a, then a C compiler with -DSAFETY \
+-DNOREDUCE. It stores as many states as explore counts, where the judge has nothing against it and no number is above \
+32767.\nExit status: 0, 2 after a fault of the words or the algorithm, 3 after one of a device or of memory.\n\nExample: \
+rmelab export --promela examples/algorithms/mcs.lock --procs 2";
+
+/// The parser of `export`, with its help.
+fn export<'a>(alloc: Global) -> Result<Parser<'a>, AllocError>
+    ensures { IfOk result (IsParser (app_of_shape export)) }
+{
+    let about = "Writes the model of an algorithm for another tool";
+    let arguments = [
+        Argument::text("promela", "FILE", "The algorithm whose model is written").as_required(),
+        Argument::number("procs", "N", "1 to 64 processes").as_required(),
+        Argument::number("crashes", "C", "At most C crashes; 0 without it"),
+        Argument::number("limit", "L", "Numbers up to L; 4 without it"),
+    ];
+    command(alloc, "export", about, EXPORT_HELP, &arguments)
 }
 
 /// The parser of `states`, with its help.
@@ -391,6 +425,7 @@ enum ParserPart {
     Hunt,
     Explore,
     Cost,
+    Export,
     States,
     Judge,
     Draw,
@@ -400,12 +435,13 @@ enum ParserPart {
 }
 
 /// The commands, as the help lists them.
-const PARTS: [ParserPart; 11] = [
+const PARTS: [ParserPart; 12] = [
     ParserPart::Replay,
     ParserPart::Run,
     ParserPart::Hunt,
     ParserPart::Explore,
     ParserPart::Cost,
+    ParserPart::Export,
     ParserPart::States,
     ParserPart::Judge,
     ParserPart::Draw,
@@ -425,6 +461,7 @@ impl ParserPart {
             ParserPart::Hunt => hunt(alloc),
             ParserPart::Explore => explore(alloc),
             ParserPart::Cost => cost(alloc),
+            ParserPart::Export => export(alloc),
             ParserPart::States => states(alloc),
             ParserPart::Judge => judge(alloc),
             ParserPart::Draw => draw(alloc),

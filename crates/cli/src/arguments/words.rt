@@ -14,6 +14,7 @@ use crate::arguments::args::{Command, JudgeArgs, RunArgs};
 use crate::arguments::cost_words::cost_words;
 use crate::arguments::draw_words::draw_words;
 use crate::arguments::explore_words::explore_words;
+use crate::arguments::export_words::export_words;
 use crate::arguments::hunt_words::hunt_words;
 use crate::arguments::parser::parser;
 use crate::arguments::replay_words::replay_words;
@@ -36,8 +37,8 @@ pub enum WordsFault {
     #[error("{text}")]
     Help { text: String },
     /// The error text of `clap`, that the words name no entry, that an option is beside `--algorithm` which the command does not
-    /// have there, that `explore`, `states`, `hunt` or `shrink` has neither a variant nor an algorithm, or that `cost` has no
-    /// algorithm. It is printed to standard error; the exit status is 2.
+    /// have there, that `explore`, `states`, `hunt` or `shrink` has neither a variant nor an algorithm, or that `cost` or `export` has
+    /// no algorithm. It is printed to standard error; the exit status is 2.
     #[error("{text}")]
     Refused { text: String },
     /// There is no such variant, it isn't `right` and an image is given, or an algorithm is given beside a variant, an image or a
@@ -275,6 +276,7 @@ fn command_of(alloc: Global, name: &str, matches: &ArgMatches<'_>) -> Result<Com
         "hunt" => hunt_words(alloc, matches),
         "explore" => explore_words(alloc, matches),
         "cost" => cost_words(alloc, matches),
+        "export" => export_words(alloc, matches),
         "states" => states_words(alloc, matches),
         "draw" => draw_words(alloc, matches),
         "shrink" => shrink_words(alloc, matches),
@@ -314,8 +316,8 @@ fn fault_of_error(alloc: Global, error: &Error) -> Result<WordsFault, AllocError
 
 /// Reads the words of a command line. The first word is the program's name. A refusal by `clap` is found first, then a bad
 /// variant, then a bad size. Words of `explain` that name no entry are refused in the same way as by `clap`; so are options beside
-/// `--algorithm` that the command does not have there, before a bad size, and `explore`, `states`, `hunt`, `shrink` or `cost` with
-/// nothing to run.
+/// `--algorithm` that the command does not have there, before a bad size, and `explore`, `states`, `hunt`, `shrink`, `cost` or
+/// `export` with nothing to run.
 pub fn read_words(alloc: Global, words: &[String]) -> Result<Command, WordsFault>
     ensures sized { IfOk result IsInRanges }
     ensures command { IfOk result (λ command. TakesWords (texts_of words.now) (λ name given. IsCommand name given command)) }

@@ -54,7 +54,7 @@ const UNSET: &str =
 loop that may have no round.";
 
 const ENDLESS: &str =
-    "Local lines can repeat without a step. Each way back has to make an access, such as an `await` or a load.";
+    "A `goto` can repeat local lines without a step. Each way back but that of a loop has to make an access, such as a load.";
 
 const NO_STEP: &str =
     "A `done` or a deed can come before the first step of the call. The first access of the call has to come first.";
@@ -79,7 +79,8 @@ const NEVER_REACHED: &str =
 
 const OUT_OF_RANGE: &str =
     "A value is not 0 to 18446744073709551615, a division is by 0, an index is no process, a store is above its bound, \
-or a deed is the fourth of its step. The start or the step is refused, and nothing changes.";
+a deed is the fourth of its step, or loops have too many rounds without an access. The start or the step is refused, and \
+nothing changes.";
 
 const NO_SUCH_CALL: &str =
     "The text of the algorithm has no such call. No text has the calls of the mailbox and its board.";

@@ -34,7 +34,7 @@ pub enum DictionaryEntry {
 }
 
 /// All entries that can be explained: one for each name.
-pub const ENTRIES: [DictionaryEntry; 98] = [
+pub const ENTRIES: [DictionaryEntry; 99] = [
     DictionaryEntry::Fault(LineFault::NoHeader),
     DictionaryEntry::Fault(LineFault::BadWord),
     DictionaryEntry::Fault(LineFault::BadNumber),
@@ -79,6 +79,7 @@ pub const ENTRIES: [DictionaryEntry; 98] = [
     DictionaryEntry::Against(Fault::LongExit),
     DictionaryEntry::Against(Fault::LongRecovery),
     DictionaryEntry::Against(Fault::LongDoorway),
+    DictionaryEntry::Against(Fault::BrokenClaim),
     DictionaryEntry::Answer(Answer::Clean),
     DictionaryEntry::Answer(Answer::OwnerDied),
     DictionaryEntry::Answer(Answer::NumbersSpent),

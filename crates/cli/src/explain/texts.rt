@@ -105,6 +105,10 @@ const LONG_DOORWAY: &str =
     "A process takes more own steps of its lock before it is ready than the text promises by `doorway within`. The doorway \
 is not bounded as promised.";
 
+const BROKEN_CLAIM: &str =
+    "A condition holds that the text says never holds, by a line `never`. The line `breaks N` of the report has the number of that \
+line, and stands where the condition holds after a step or a crash, or held before it.";
+
 /// An entry for a fault of a schedule or a trace.
 fn of_text(name: &'static str, text: &'static str) -> Meaning
     ensures { result.name.now ≡ name.now }
@@ -198,5 +202,6 @@ pub fn of_judge_fault(fault: Fault) -> Meaning
         Fault::LongExit => of_promise("against 8", LONG_EXIT),
         Fault::LongRecovery => of_promise("against 9", LONG_RECOVERY),
         Fault::LongDoorway => of_promise("against 10", LONG_DOORWAY),
+        Fault::BrokenClaim => of_promise("against 11", BROKEN_CLAIM),
     }
 }

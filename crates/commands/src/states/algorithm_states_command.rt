@@ -21,7 +21,7 @@ use crate::states::set_reader::lead_input;
 use crate::states::set_walk::walk_of_input;
 use crate::states::state_form::form_of;
 use crate::states::states_start::write_first;
-use algorithm_explorer::AlgorithmExplorer;
+use algorithm_explorer::{AlgorithmExplorer, CrashesLeft};
 use algorithms::{AlgorithmRefusal, InitializedAlgorithm};
 use cli::arguments::args::{AlgorithmExploreArgs, AlgorithmStatesArgs, StatesTool};
 use explorer::Space;
@@ -46,7 +46,10 @@ fn explorer_of(
         algorithm,
         args.procs,
         args.limit,
-        Some(args.crashes),
+        CrashesLeft {
+            alone: Some(args.crashes),
+            together: args.system_crashes,
+        },
         &calls,
     ) {
         Ok(explorer) => Ok(explorer),

@@ -7,6 +7,7 @@ use Rattle.algorithms.specs.declared.algorithm.AlgorithmCall.{AlgorithmCall}
 use Rattle.cli.specs.declared.arguments.args.CostArgs.{CostArgs}
 use Rattle.commands.specs.AlgorithmExplores.{calls_of}
 use Rattle.commands.proofs.AlgorithmCosts.{ends_cost, ends_unbounded}
+use Rattle.commands.specs.AlgorithmFindings.{crash_bounds}
 use Rattle.commands.proofs.algorithm_cost_command.tell_costs.Goals as goal
 
 pub returns-in-Ok-Greatest-clause-ends : goal.returns-in-Ok-Greatest-clause-ends
@@ -16,8 +17,8 @@ returns-in-Ok-Greatest-clause-ends g c =
     let sizes = rw c.in-Ok-Greatest.is at c.algorithm_cost-found.ensures.accepted in
     let found = c.in-Ok-Greatest.found in
     ends_cost c.args.algorithm o _ _ c.tell_cost.result sizes found
-    (subst (λ (q : CostQuestion). IsCostOfSearch (algorithm_search c.args.algorithm o.search.procs o.search.limit (Some o.search.crashes) (calls_of c.args.algorithm o.search)) q (Greatest found)) c.question_of.ensures
-    (subst (λ (calls : List AlgorithmCall). IsCostOfSearch (algorithm_search c.args.algorithm o.search.procs o.search.limit (Some o.search.crashes) calls) c.question_of.result (Greatest found)) (c.deref.ensures.value ∙ c.in_ok-calls.ensures) is))
+    (subst (λ (q : CostQuestion). IsCostOfSearch (algorithm_search c.args.algorithm o.search.procs o.search.limit (crash_bounds o.search.crashes o.search.system_crashes) (calls_of c.args.algorithm o.search)) q (Greatest found)) c.question_of.ensures
+    (subst (λ (calls : List AlgorithmCall). IsCostOfSearch (algorithm_search c.args.algorithm o.search.procs o.search.limit (crash_bounds o.search.crashes o.search.system_crashes) calls) c.question_of.result (Greatest found)) (c.deref.ensures.value ∙ c.in_ok-calls.ensures) is))
     c.tell_cost.ensures.prints
 
 pub returns-in-Ok-Unbounded-clause-ends : goal.returns-in-Ok-Unbounded-clause-ends
@@ -27,6 +28,6 @@ returns-in-Ok-Unbounded-clause-ends g c =
     let sizes = rw c.in-Ok-Unbounded.is at c.algorithm_cost-found.ensures.accepted in
     let lasso = c.in-Ok-Unbounded.lasso in
     ends_unbounded c.args.algorithm o _ _ c.tell_unbounded.result sizes lasso
-    (subst (λ (q : CostQuestion). IsCostOfSearch (algorithm_search c.args.algorithm o.search.procs o.search.limit (Some o.search.crashes) (calls_of c.args.algorithm o.search)) q (Unbounded lasso)) c.question_of.ensures
-    (subst (λ (calls : List AlgorithmCall). IsCostOfSearch (algorithm_search c.args.algorithm o.search.procs o.search.limit (Some o.search.crashes) calls) c.question_of.result (Unbounded lasso)) (c.deref.ensures.value ∙ c.in_ok-calls.ensures) is))
+    (subst (λ (q : CostQuestion). IsCostOfSearch (algorithm_search c.args.algorithm o.search.procs o.search.limit (crash_bounds o.search.crashes o.search.system_crashes) (calls_of c.args.algorithm o.search)) q (Unbounded lasso)) c.question_of.ensures
+    (subst (λ (calls : List AlgorithmCall). IsCostOfSearch (algorithm_search c.args.algorithm o.search.procs o.search.limit (crash_bounds o.search.crashes o.search.system_crashes) calls) c.question_of.result (Unbounded lasso)) (c.deref.ensures.value ∙ c.in_ok-calls.ensures) is))
     c.tell_unbounded.ensures.prints

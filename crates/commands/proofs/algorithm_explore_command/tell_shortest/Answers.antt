@@ -3,6 +3,7 @@ use Rattle.algorithm_explorer.specs.SearchAnswers.{IsSearchResult}
 use Rattle.algorithm_explorer.specs.Spaces.{algorithm_search}
 use Rattle.cli.specs.declared.arguments.args.AlgorithmExploreArgs.{AlgorithmExploreArgs}
 use Rattle.commands.proofs.AlgorithmExplores.{AnswersArgs, ends_path, ends_within, ends_all}
+use Rattle.commands.specs.AlgorithmFindings.{crash_bounds}
 use Rattle.commands.proofs.algorithm_explore_command.tell_shortest.Goals as goal
 
 pub returns-in-Path-clause-ends : goal.returns-in-Path-clause-ends
@@ -13,7 +14,7 @@ returns-in-Path-clause-ends g c =
     let sizes = rw c.in-Ok.is at c.shortest_algorithm_schedule_in_parallel-found.ensures.accepted in
     ends_path c.args.algorithm o _ _ left c.tell_path.result sizes c.in-Path.path _ (rw c.in-Path.path-is at c.deref-in-Path.ensures.value)
     (subst (λ outcome. AnswersArgs c.args.algorithm o outcome left) c.in-Path.is
-    (subst (λ calls. IsSearchResult (algorithm_search c.args.algorithm o.procs o.limit (Some o.crashes) calls) o.moves o.states (Ok c.in-Ok.found)) (c.deref.ensures.value ∙ c.in_ok-calls.ensures) answers))
+    (subst (λ calls. IsSearchResult (algorithm_search c.args.algorithm o.procs o.limit (crash_bounds o.crashes o.system_crashes) calls) o.moves o.states (Ok c.in-Ok.found)) (c.deref.ensures.value ∙ c.in_ok-calls.ensures) answers))
     c.tell_path.ensures.prints
 
 pub returns-in-NoneWithin-clause-ends : goal.returns-in-NoneWithin-clause-ends
@@ -24,7 +25,7 @@ returns-in-NoneWithin-clause-ends g c =
     let sizes = rw c.in-Ok.is at c.shortest_algorithm_schedule_in_parallel-found.ensures.accepted in
     ends_within c.args.algorithm o _ _ left c.tell_within.result sizes
     (subst (λ outcome. AnswersArgs c.args.algorithm o outcome left) c.in-NoneWithin.is
-    (subst (λ calls. IsSearchResult (algorithm_search c.args.algorithm o.procs o.limit (Some o.crashes) calls) o.moves o.states (Ok c.in-Ok.found)) (c.deref.ensures.value ∙ c.in_ok-calls.ensures) answers))
+    (subst (λ calls. IsSearchResult (algorithm_search c.args.algorithm o.procs o.limit (crash_bounds o.crashes o.system_crashes) calls) o.moves o.states (Ok c.in-Ok.found)) (c.deref.ensures.value ∙ c.in_ok-calls.ensures) answers))
     c.tell_within.ensures.prints
 
 pub returns-in-Ok-clause-ends : goal.returns-in-Ok-clause-ends
@@ -35,5 +36,5 @@ returns-in-Ok-clause-ends g c =
     let sizes = rw c.in-Ok.is at c.shortest_algorithm_schedule_in_parallel-found.ensures.accepted in
     ends_all c.args.algorithm o _ _ left c.tell_all_but.result sizes c.in-Nowhere.states
     (subst (λ outcome. AnswersArgs c.args.algorithm o outcome left) c.in-Nowhere.is
-    (subst (λ calls. IsSearchResult (algorithm_search c.args.algorithm o.procs o.limit (Some o.crashes) calls) o.moves o.states (Ok c.in-Ok.found)) (c.deref.ensures.value ∙ c.in_ok-calls.ensures) answers))
+    (subst (λ calls. IsSearchResult (algorithm_search c.args.algorithm o.procs o.limit (crash_bounds o.crashes o.system_crashes) calls) o.moves o.states (Ok c.in-Ok.found)) (c.deref.ensures.value ∙ c.in_ok-calls.ensures) answers))
     c.tell_all_but.ensures.prints

@@ -5,6 +5,7 @@ use Rattle.algorithm_explorer.specs.SearchAnswers.{IsStuckResult}
 use Rattle.algorithm_explorer.specs.Spaces.{algorithm_search}
 use Rattle.cli.specs.declared.arguments.args.AlgorithmExploreArgs.{AlgorithmExploreArgs}
 use Rattle.commands.proofs.AlgorithmStuck.{ends_wrong, ends_stuck, ends_never}
+use Rattle.commands.specs.AlgorithmFindings.{crash_bounds}
 use Rattle.commands.proofs.algorithm_stuck.tell_stuck.Goals as goal
 
 pub returns-in-Ok-Fault-clause-ends : goal.returns-in-Ok-Fault-clause-ends
@@ -14,7 +15,7 @@ returns-in-Ok-Fault-clause-ends g c =
     let sizes = rw c.in-Ok-Fault.is at c.stuck_algorithm_schedule-found.ensures.accepted in
     let found = Ok (Fault c.in-Ok-Fault.path) in
     ends_wrong c.args.algorithm o _ _ c.tell_path.result sizes c.in-Ok-Fault.path _ c.deref-in-Ok-Fault.ensures.value
-    (subst (λ (calls : List AlgorithmCall). IsStuckResult (algorithm_search c.args.algorithm o.procs o.limit (Some o.crashes) calls) o.states found) (c.deref.ensures.value ∙ c.in_ok-calls.ensures) answers)
+    (subst (λ (calls : List AlgorithmCall). IsStuckResult (algorithm_search c.args.algorithm o.procs o.limit (crash_bounds o.crashes o.system_crashes) calls) o.states found) (c.deref.ensures.value ∙ c.in_ok-calls.ensures) answers)
     c.tell_path.ensures.prints
 
 pub returns-in-Ok-Stuck-clause-ends : goal.returns-in-Ok-Stuck-clause-ends
@@ -24,7 +25,7 @@ returns-in-Ok-Stuck-clause-ends g c =
     let sizes = rw c.in-Ok-Stuck.is at c.stuck_algorithm_schedule-found.ensures.accepted in
     let found = Ok (Stuck c.in-Ok-Stuck.path) in
     ends_stuck c.args.algorithm o _ _ c.tell_path-in-Ok-Stuck.result sizes c.in-Ok-Stuck.path _ c.deref-in-Ok-Stuck.ensures.value
-    (subst (λ (calls : List AlgorithmCall). IsStuckResult (algorithm_search c.args.algorithm o.procs o.limit (Some o.crashes) calls) o.states found) (c.deref.ensures.value ∙ c.in_ok-calls.ensures) answers)
+    (subst (λ (calls : List AlgorithmCall). IsStuckResult (algorithm_search c.args.algorithm o.procs o.limit (crash_bounds o.crashes o.system_crashes) calls) o.states found) (c.deref.ensures.value ∙ c.in_ok-calls.ensures) answers)
     c.tell_path-in-Ok-Stuck.ensures.prints
 
 pub returns-in-Ok-NeverStuck-clause-ends : goal.returns-in-Ok-NeverStuck-clause-ends
@@ -34,5 +35,5 @@ returns-in-Ok-NeverStuck-clause-ends g c =
     let sizes = rw c.in-Ok-NeverStuck.is at c.stuck_algorithm_schedule-found.ensures.accepted in
     let found = Ok (NeverStuck c.in-Ok-NeverStuck.states) in
     ends_never c.args.algorithm o _ _ c.tell_never.result sizes c.in-Ok-NeverStuck.states
-    (subst (λ (calls : List AlgorithmCall). IsStuckResult (algorithm_search c.args.algorithm o.procs o.limit (Some o.crashes) calls) o.states found) (c.deref.ensures.value ∙ c.in_ok-calls.ensures) answers)
+    (subst (λ (calls : List AlgorithmCall). IsStuckResult (algorithm_search c.args.algorithm o.procs o.limit (crash_bounds o.crashes o.system_crashes) calls) o.states found) (c.deref.ensures.value ∙ c.in_ok-calls.ensures) answers)
     c.tell_never.ensures.prints

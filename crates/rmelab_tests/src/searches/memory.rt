@@ -20,7 +20,6 @@ nothing found within 3 moves
 @row rmelab explore --algorithm a.lock --procs 1 --stuck --limit 1 --crashes 1 @file a.lock ONE_WORD @out LEFT_HELD @ends 1
 @row rmelab cost --algorithm a.lock --model write-through --procs 1 --limit 1 @file a.lock ONE_WORD @out ALONE_COSTS
 @row rmelab cost --algorithm a.lock --model dsm --procs 1 --limit 1 --crashes 1 @file a.lock ONE_WORD @out SPINS @ends 1
-@row rmelab export --promela a.lock --procs 2 --limit 1 --crashes 1 @file a.lock PETERSON @out PETERSON_MODEL
 @row rmelab explore --algorithm a.lock --procs 2 --cap 1 @ends 2 @err NO_MAILBOX
 @row rmelab explore --procs 2 @ends 2 @err NO_LOCK
 @row rmelab hunt --algorithm a.lock --seed 1 --rounds 1 --steps 3 @file a.lock PETERSON @out

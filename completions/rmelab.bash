@@ -46,6 +46,9 @@ _rmelab() {
         cost:--system-crashes) : && return ;;
         cost:--states) : && return ;;
         cost:--limit) : && return ;;
+        cost:--seed) : && return ;;
+        cost:--rounds) : && return ;;
+        cost:--steps) : && return ;;
         export:--promela) mapfile -t COMPREPLY < <(compgen -f -- "$word") && return ;;
         export:--procs) : && return ;;
         export:--crashes) : && return ;;
@@ -74,7 +77,7 @@ _rmelab() {
         run) mapfile -t COMPREPLY < <(compgen -W "--procs --messages --crash --seed --width -h --help" -- "$word") ;;
         hunt) mapfile -t COMPREPLY < <(compgen -W "--variant --algorithm --procs --limit --seed --first-round --rounds --steps --shrink --jobs -h --help" -- "$word") ;;
         explore) mapfile -t COMPREPLY < <(compgen -W "--variant --algorithm --procs --calls --crashes --system-crashes --moves --states --limit --cap --width --stuck --starving --all-variables --jobs -h --help" -- "$word") ;;
-        cost) mapfile -t COMPREPLY < <(compgen -W "--algorithm --model --super-passages --procs --calls --crashes --system-crashes --states --limit -h --help" -- "$word") ;;
+        cost) mapfile -t COMPREPLY < <(compgen -W "--algorithm --model --super-passages --procs --calls --crashes --system-crashes --states --limit --mean --seed --rounds --steps -h --help" -- "$word") ;;
         export) mapfile -t COMPREPLY < <(compgen -W "--promela --procs --crashes --limit -h --help" -- "$word") ;;
         states) mapfile -t COMPREPLY < <(compgen -W "--variant --algorithm --procs --calls --crashes --limit --cap --width --words --digits --part --parts -h --help" -- "$word"; compgen -f -- "$word") ;;
         judge) mapfile -t COMPREPLY < <(compgen -W "--json -h --help" -- "$word"; compgen -f -- "$word") ;;

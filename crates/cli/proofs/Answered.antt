@@ -1,5 +1,5 @@
 -- Words with a bad variant or a bad size are answered with that alone.
-use Rattle.std.proofs.Common.{◌≡◌, ◌⊎◌, ◌∙◌, false, List, [], Option, Some, None, Result, Ok, Err, IfOk, IfErr, IsNone, IsSome, IsSomeAnd, inl, inr, refl, sym, subst, subst₂, codes, option_map, unwrap_or}
+use Rattle.std.proofs.Common.{◌≡◌, ◌⊎◌, ◌↔◌, ◌∙◌, Bool, true, false, List, [], Option, Some, None, Result, Ok, Err, IfOk, IfErr, IsNone, IsSome, IsSomeAnd, inl, inr, refl, sym, subst, subst₂, codes, option_map, unwrap_or}
 use Rattle.std.specs.Str.{bytes_eq}
 use Rattle.std.proofs.lemmas.Bool.{false≢true}
 use Rattle.clap.specs.Words.{Text, first_of, fault_of, subcommand_of, IsAmong}
@@ -12,15 +12,16 @@ use Rattle.cli.specs.declared.arguments.args.Cycles.{Cycles}
 use Rattle.cli.specs.declared.arguments.args.HuntArgs.{HuntArgs}
 use Rattle.cli.specs.declared.arguments.args.AlgorithmHuntArgs.{AlgorithmHuntArgs}
 use Rattle.cli.specs.declared.arguments.args.CostArgs.{CostArgs}
+use Rattle.cli.specs.declared.arguments.args.MeanCostArgs.{MeanCostArgs}
 use Rattle.cli.specs.declared.arguments.args.ExploreArgs.{ExploreArgs}
 use Rattle.cli.specs.declared.arguments.args.AlgorithmExploreArgs.{AlgorithmExploreArgs}
-use Rattle.cli.specs.declared.arguments.args.Command.TheVariants.{Replay, ReplayAlgorithm, Run, Hunt, HuntAlgorithm, Explore, ExploreAlgorithm, Cost, Export, States, StatesAlgorithm, Judge, Draw, DrawAlgorithm, Shrink, ShrinkAlgorithm, Step, StepAlgorithm, Explain}
+use Rattle.cli.specs.declared.arguments.args.Command.TheVariants.{Replay, ReplayAlgorithm, Run, Hunt, HuntAlgorithm, Explore, ExploreAlgorithm, Cost, MeanCost, Export, States, StatesAlgorithm, Judge, Draw, DrawAlgorithm, Shrink, ShrinkAlgorithm, Step, StepAlgorithm, Explain}
 use Rattle.cli.specs.declared.arguments.words.WordsFault.{WordsFault}
 use Rattle.cli.specs.declared.arguments.words.WordsFault.TheVariants.{Help, Refused, BadVariant, BadSize, Unreadable, OutOfMemory}
 use Rattle.cli.specs.CommandLine.{rmelab}
 use Rattle.cli.specs.Given.{Given, AsksFor, AsksForCycles, AsksForNoModel, word_of_cycles, word_of_variant}
 use Rattle.cli.specs.ReadWords.{GoesWithImage, IsAlone, IsBadBesideImage, IsBesideAlgorithm, IsBadVariant, TakesImage, NeedsLock, HasBadVariant}
-use Rattle.cli.specs.ReadWords.{IsHunt, IsAlgorithmHunt, IsBadHunt, IsBadAlgorithmHunt, IsExplore, IsAlgorithmExplore, AsksForCost, IsBadSearch, IsBadAlgorithmSearch, IsBadCost, IsBadStarving}
+use Rattle.cli.specs.ReadWords.{IsHunt, IsAlgorithmHunt, IsBadHunt, IsBadAlgorithmHunt, IsExplore, IsAlgorithmExplore, AsksForCost, AsksForMeanCost, HasNoRounds, HasNoSearch, IsAlgorithmSearch, cost_rounds_of, cost_steps_of, IsBadSearch, IsBadAlgorithmSearch, IsBadCost, IsBadStarving}
 use Rattle.cli.specs.ReadWords.{IsOutOfRange, HasBadSize, HasNoLock, HasBadWords, IsCommand, IsFault, IsFaultOfSearch, IsFaultOfStream, TakesWords, IsWordsRefusal}
 use Rattle.cli.specs.Sizes.{IsInRanges, RunFits, IsHuntSize}
 use Rattle.cli.proofs.Texts.{differ}
@@ -110,6 +111,7 @@ good_variant name given (States args) h (inr bad) = variant_asked given args.sea
 good_variant name given (StatesAlgorithm args) h (inl bad) = takes_no_image (codes "states") name h.0 refl refl bad.0
 good_variant name given (StatesAlgorithm args) h (inr bad) = no_both (first_of (codes "variant") given) h.1.search.no_variant bad.1.0
 good_variant name given (Cost args) h bad = neither (codes "cost") name given h.0 refl refl refl refl refl refl bad
+good_variant name given (MeanCost args) h bad = neither (codes "cost") name given h.0 refl refl refl refl refl refl bad
 good_variant name given (Export args) h bad = neither (codes "export") name given h.0 refl refl refl refl refl refl bad
 good_variant name given (Run args) h bad = neither (codes "run") name given h.0 refl refl refl refl refl refl bad
 good_variant name given (Judge file) h bad = neither (codes "judge") name given h.0 refl refl refl refl refl refl bad
@@ -161,9 +163,19 @@ good_algorithm_search given args h (inr (of_algorithm, inl bad)) = false≢true 
 good_algorithm_search given args h (inr (of_algorithm, inr (inl stuck))) = no_both (first_of (codes "moves") given) (h.unbounded (h.stuck ∙ stuck.0)) stuck.1
 good_algorithm_search given args h (inr (of_algorithm, inr (inr starving))) = good_cycles given args.starving h.starving h.no_bound starving
 
+-- the greatest cost and the mean
+both_asked : (given : Given) → HasNoRounds given → HasNoSearch given → ⊥
+both_asked given no_rounds no_search = false≢true (sym no_rounds.no_mean ∙ no_search.mean)
+
 good_cost : (given : Given) (args : CostArgs) → AsksForCost given args → IsBadCost given → ⊥
-good_cost given args h (is, inl bad) = good_algorithm_search given args.search h.search (inr bad)
-good_cost given args h (is, inr lacks) = lacks args.model h.model
+good_cost given args h (is, inl lacks) = lacks args.model h.model
+good_cost given args h (is, inr (inl bad)) = good_algorithm_search given args.search h.search (inr bad.1)
+good_cost given args h (is, inr (inr bad)) = both_asked given h.options bad.0
+
+good_mean_cost : (given : Given) (args : MeanCostArgs) → AsksForMeanCost given args → IsHuntSize args.rounds args.steps → IsBadCost given → ⊥
+good_mean_cost given args h sized (is, inl lacks) = lacks args.model h.model
+good_mean_cost given args h sized (is, inr (inl bad)) = both_asked given bad.0 h.options
+good_mean_cost given args h sized (is, inr (inr bad)) = bad.1 (subst₂ IsHuntSize h.rounds h.steps sized)
 
 good_size : (name : Text) (given : Given) (command : Command) → IsInRanges command → IsCommand name given command → IsOutOfRange name given → ⊥
 good_size name given (Run args) sized h (inl bad) = bad.1 (subst RunFits h.1 sized)
@@ -208,6 +220,11 @@ good_size name given (Cost args) sized h (inr (inl bad)) = other_name (codes "co
 good_size name given (Cost args) sized h (inr (inr (inl bad))) = other_name (codes "cost") (codes "explore") name h.0 refl bad.0
 good_size name given (Cost args) sized h (inr (inr (inr (inl bad)))) = other_name (codes "cost") (codes "states") name h.0 refl bad.0
 good_size name given (Cost args) sized h (inr (inr (inr (inr bad)))) = good_cost given args h.1 bad.1
+good_size name given (MeanCost args) sized h (inl bad) = other_name (codes "cost") (codes "run") name h.0 refl bad.0
+good_size name given (MeanCost args) sized h (inr (inl bad)) = other_name (codes "cost") (codes "hunt") name h.0 refl bad.0
+good_size name given (MeanCost args) sized h (inr (inr (inl bad))) = other_name (codes "cost") (codes "explore") name h.0 refl bad.0
+good_size name given (MeanCost args) sized h (inr (inr (inr (inl bad)))) = other_name (codes "cost") (codes "states") name h.0 refl bad.0
+good_size name given (MeanCost args) sized h (inr (inr (inr (inr bad)))) = good_mean_cost given args h.1 sized bad.1
 good_size name given (Export args) sized h bad = sizeless (codes "export") name given h.0 refl refl refl refl refl bad
 good_size name given (Replay args) sized h bad = sizeless (codes "replay") name given h.0 refl refl refl refl refl bad
 good_size name given (ReplayAlgorithm args) sized h bad = sizeless (codes "replay") name given h.0 refl refl refl refl refl bad
@@ -378,14 +395,47 @@ bad_algorithm : (given : Given) → IsNone (first_of (codes "variant") given) �
 bad_algorithm given none (inl bad) = absurd (no_both (first_of (codes "variant") given) none bad.0)
 bad_algorithm given none (inr bad) = bad
 
-pub cost_refused : (given : Given) (fault : WordsFault) → IsNone (first_of (codes "variant") given) → IsFaultOfSearch given fault → IsFault (codes "cost") given fault
-cost_refused given (Help text) none h = absurd h
-cost_refused given (Refused text) none h = inr (inr (inl (refl, λ is. h.1 is.search)))
-cost_refused given BadVariant none h = absurd (no_both (first_of (codes "variant") given) none h.0)
-cost_refused given BadSize none h =
-    let bad = bad_algorithm given none h.1 in (no_bad_variant given, inr (inr (inr (inr (refl, (record { search = bad.0; no_variant = none }, inl bad))))))
-cost_refused given Unreadable none h = absurd h
-cost_refused given OutOfMemory none h = tt
+-- the search of the greatest cost
+searched : (given : Given) → HasNoRounds given → (IsAlgorithmSearch given × HasNoRounds given) ⊎ HasNoSearch given → IsAlgorithmSearch given
+searched given no_rounds (inl is) = is.0
+searched given no_rounds (inr is) = absurd (both_asked given no_rounds is)
 
-pub model_refused : (given : Given) (args : AlgorithmExploreArgs) → IsAlgorithmExplore given args → AsksForNoModel given → IsFault (codes "cost") given BadSize
-model_refused given args h lacks = (no_bad_variant given, inr (inr (inr (inr (refl, (record { search = h.search; no_variant = h.no_variant }, inr lacks))))))
+pub cost_refused : (given : Given) (fault : WordsFault) → IsNone (first_of (codes "variant") given) → HasNoRounds given → IsFaultOfSearch given fault
+    → IsFault (codes "cost") given fault
+cost_refused given (Help text) none no_rounds h = absurd h
+cost_refused given (Refused text) none no_rounds h = inr (inr (inl (refl, λ is. h.1 (searched given no_rounds is.options))))
+cost_refused given BadVariant none no_rounds h = absurd (no_both (first_of (codes "variant") given) none h.0)
+cost_refused given BadSize none no_rounds h =
+    let bad = bad_algorithm given none h.1 in
+    (no_bad_variant given, inr (inr (inr (inr (refl, (record { algorithm = bad.0.algorithm; no_variant = none; options = inl (bad.0, no_rounds) }, inr (inl (no_rounds, bad))))))))
+cost_refused given Unreadable none no_rounds h = absurd h
+cost_refused given OutOfMemory none no_rounds h = tt
+
+pub model_refused : (given : Given) (args : AlgorithmExploreArgs) → IsAlgorithmExplore given args → HasNoRounds given → AsksForNoModel given
+    → IsFault (codes "cost") given BadSize
+model_refused given args h no_rounds lacks =
+    (no_bad_variant given, inr (inr (inr (inr (refl, (record { algorithm = h.search.algorithm; no_variant = h.no_variant; options = inl (h.search, no_rounds) }, inl lacks))))))
+
+-- the text that is given
+some_given : (text : Text) (o : Option Text) → Some text ≡ o → IsSome o
+some_given text o is = subst (λ (x : Option Text). IsSome x) is refl
+
+pub mean_refused : (given : Given) (text : Text) → Some text ≡ first_of (codes "algorithm") given → IsNone (first_of (codes "variant") given) → HasNoSearch given
+    → (IsHuntSize (cost_rounds_of given) (cost_steps_of given) → ⊥) → IsFault (codes "cost") given BadSize
+mean_refused given text is none no_search bad =
+    let some = some_given text (first_of (codes "algorithm") given) is in
+    (no_bad_variant given, inr (inr (inr (inr (refl, (record { algorithm = some; no_variant = none; options = inr no_search }, inr (inr (no_search, bad))))))))
+
+pub mean_model_refused : (given : Given) (text : Text) → Some text ≡ first_of (codes "algorithm") given → IsNone (first_of (codes "variant") given) → HasNoSearch given
+    → AsksForNoModel given → IsFault (codes "cost") given BadSize
+mean_model_refused given text is none no_search lacks =
+    let some = some_given text (first_of (codes "algorithm") given) is in
+    (no_bad_variant given, inr (inr (inr (inr (refl, (record { algorithm = some; no_variant = none; options = inr no_search }, inl lacks))))))
+
+pub options_refused : (given : Given) (rounds search : Bool) → rounds ≡ false → (rounds ≡ true ↔ HasNoRounds given) → search ≡ false → (search ≡ true ↔ HasNoSearch given)
+    → HasBadWords (codes "cost") given
+options_refused given rounds search no_rounds is_rounds no_search is_search = inr (inr (inl (refl, λ is. go is.options)))
+  where
+    go : (IsAlgorithmSearch given × HasNoRounds given) ⊎ HasNoSearch given → ⊥
+    go (inl is) = false≢true (sym no_rounds ∙ is_rounds.1 is.1)
+    go (inr is) = false≢true (sym no_search ∙ is_search.1 is)

@@ -100,7 +100,8 @@ explore = part (codes "explore") (
 abbrev pub cost : Shape
 cost = part (codes "cost") (
     required_rule algorithm ∷ required_rule (option (codes "model")) ∷ flag (codes "super-passages") ∷ required_rule (number (codes "procs"))
-    ∷ option (codes "calls") ∷ number (codes "crashes") ∷ number (codes "system-crashes") ∷ number (codes "states") ∷ number (codes "limit") ∷ [])
+    ∷ option (codes "calls") ∷ number (codes "crashes") ∷ number (codes "system-crashes") ∷ number (codes "states") ∷ number (codes "limit")
+    ∷ flag (codes "mean") ∷ number (codes "seed") ∷ number (codes "rounds") ∷ number (codes "steps") ∷ [])
 
 abbrev pub export : Shape
 export = part (codes "export") (

@@ -2,7 +2,7 @@
 use Rattle.std.specs.Prelude.{String, Option, Some, None}
 use Rattle.std.specs.declared.alloc.Global.{Global}
 use Rattle.cli.specs.declared.arguments.args.Command.{Command}
-use Rattle.cli.specs.declared.arguments.args.Command.TheVariants.{Replay, ReplayAlgorithm, HuntAlgorithm, ExploreAlgorithm, Cost, Export, States, StatesAlgorithm, Judge, Draw, DrawAlgorithm, Shrink, ShrinkAlgorithm, Step, StepAlgorithm}
+use Rattle.cli.specs.declared.arguments.args.Command.TheVariants.{Replay, ReplayAlgorithm, HuntAlgorithm, ExploreAlgorithm, Cost, MeanCost, Export, States, StatesAlgorithm, Judge, Draw, DrawAlgorithm, Shrink, ShrinkAlgorithm, Step, StepAlgorithm}
 
 -- the file that is read first: an image, an algorithm, or the schedule that a session on the lock starts from
 abbrev pub image_of : Command → Option (String Global)
@@ -11,6 +11,7 @@ image_of (ReplayAlgorithm args) = Some args.algorithm
 image_of (HuntAlgorithm args) = Some args.algorithm
 image_of (ExploreAlgorithm args) = Some args.algorithm
 image_of (Cost args) = Some args.search.algorithm
+image_of (MeanCost args) = Some args.algorithm
 image_of (Export args) = Some args.algorithm
 image_of (StatesAlgorithm args) = Some args.search.algorithm
 image_of (Draw args) = args.image

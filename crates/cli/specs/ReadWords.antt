@@ -10,7 +10,7 @@ use Rattle.clap.specs.declared.error.kind.ErrorKind.TheVariants as kinds
 use Rattle.crashlab.specs.declared.variants.variant.Variant.{Variant}
 use Rattle.crashlab.specs.declared.variants.variant.Variant.TheVariants.{Right}
 use Rattle.cli.specs.declared.arguments.args.Command.{Command}
-use Rattle.cli.specs.declared.arguments.args.Command.TheVariants.{Replay, ReplayAlgorithm, Run, Hunt, HuntAlgorithm, Explore, ExploreAlgorithm, Cost, Export, States, StatesAlgorithm, Judge, Draw, DrawAlgorithm, Shrink, ShrinkAlgorithm, Step, StepAlgorithm, Explain}
+use Rattle.cli.specs.declared.arguments.args.Command.TheVariants.{Replay, ReplayAlgorithm, Run, Hunt, HuntAlgorithm, Explore, ExploreAlgorithm, Cost, MeanCost, Export, States, StatesAlgorithm, Judge, Draw, DrawAlgorithm, Shrink, ShrinkAlgorithm, Step, StepAlgorithm, Explain}
 use Rattle.cli.specs.declared.arguments.args.ReplayArgs.{ReplayArgs}
 use Rattle.cli.specs.declared.arguments.args.AlgorithmReplayArgs.{AlgorithmReplayArgs}
 use Rattle.cli.specs.declared.arguments.args.RunArgs.{RunArgs}
@@ -19,6 +19,7 @@ use Rattle.cli.specs.declared.arguments.args.AlgorithmHuntArgs.{AlgorithmHuntArg
 use Rattle.cli.specs.declared.arguments.args.ExploreArgs.{ExploreArgs}
 use Rattle.cli.specs.declared.arguments.args.AlgorithmExploreArgs.{AlgorithmExploreArgs}
 use Rattle.cli.specs.declared.arguments.args.CostArgs.{CostArgs}
+use Rattle.cli.specs.declared.arguments.args.MeanCostArgs.{MeanCostArgs}
 use Rattle.cli.specs.declared.arguments.args.ExportArgs.{ExportArgs}
 use Rattle.cli.specs.declared.arguments.args.StreamArgs.{StreamArgs}
 use Rattle.cli.specs.declared.arguments.args.StatesArgs.{StatesArgs}
@@ -154,16 +155,53 @@ pub record IsAlgorithmExplore (given : Given) (args : AlgorithmExploreArgs) : Ty
   pub unbounded : args.stuck ≡ true → IsNone (first_of (codes "moves") given)
   pub no_bound : IsSome args.starving → IsNone (first_of (codes "moves") given)
 
--- an algorithm alone is given to a search of costs, and no option that the search of one does not have
+-- the greatest cost is asked for, and no option of random schedules is given
+pub record HasNoRounds (given : Given) : Type 0 where
+  pub no_mean : is_set (codes "mean") given ≡ false
+  pub no_seed : IsNone (first_of (codes "seed") given)
+  pub no_rounds : IsNone (first_of (codes "rounds") given)
+  pub no_steps : IsNone (first_of (codes "steps") given)
+
+-- the mean cost is asked for, and no option of a search is given. Nobody crashes on these random schedules
+pub record HasNoSearch (given : Given) : Type 0 where
+  pub mean : is_set (codes "mean") given ≡ true
+  pub no_super_passages : is_set (codes "super-passages") given ≡ false
+  pub no_calls : IsNone (first_of (codes "calls") given)
+  pub no_crashes : IsNone (first_of (codes "crashes") given)
+  pub no_system_crashes : IsNone (first_of (codes "system-crashes") given)
+  pub no_states : IsNone (first_of (codes "states") given)
+
+-- an algorithm alone is given, whose costs are asked for, and no option that `cost` does not have for one, or for what is asked
 pub record IsCostSearch (given : Given) : Type 0 where
-  pub search : IsAlgorithmSearch given
+  pub algorithm : IsSome (first_of (codes "algorithm") given)
   pub no_variant : IsNone (first_of (codes "variant") given)
+  pub options : (IsAlgorithmSearch given × HasNoRounds given) ⊎ HasNoSearch given
 
 -- the schedules are those of the search that `explore` makes of the same options
 pub record AsksForCost (given : Given) (args : CostArgs) : Type 0 where
   pub search : IsAlgorithmExplore given args.search
   pub model : AsksForModel given args.model
   pub kind : args.kind ≡ kind_asked given
+  pub options : HasNoRounds given
+
+-- the rounds of random schedules whose costs are counted
+abbrev pub cost_rounds_of : Given → ℕ
+cost_rounds_of given = number_or 100 (codes "rounds") given
+
+-- the moves of each of these rounds
+abbrev pub cost_steps_of : Given → ℕ
+cost_steps_of given = number_or 1000 (codes "steps") given
+
+pub record AsksForMeanCost (given : Given) (args : MeanCostArgs) : Type 0 where
+  pub algorithm : Some (string_bytes args.algorithm) ≡ first_of (codes "algorithm") given
+  pub model : AsksForModel given args.model
+  pub procs : args.procs ≡ number_or 0 (codes "procs") given
+  pub limit : args.limit ≡ number_or 1000000 (codes "limit") given
+  pub seed : args.seed ≡ number_or 0 (codes "seed") given
+  pub rounds : args.rounds ≡ cost_rounds_of given
+  pub steps : args.steps ≡ cost_steps_of given
+  pub options : HasNoSearch given
+  pub no_variant : IsNone (first_of (codes "variant") given)
 
 -- the model of an algorithm, its sizes, and how many crashes may come
 pub record AsksForModelOf (given : Given) (args : ExportArgs) : Type 0 where
@@ -233,6 +271,7 @@ IsCommand name given (HuntAlgorithm args) = (name ≡ codes "hunt") × IsAlgorit
 IsCommand name given (Explore args) = (name ≡ codes "explore") × IsExplore given args
 IsCommand name given (ExploreAlgorithm args) = (name ≡ codes "explore") × IsAlgorithmExplore given args
 IsCommand name given (Cost args) = (name ≡ codes "cost") × AsksForCost given args
+IsCommand name given (MeanCost args) = (name ≡ codes "cost") × AsksForMeanCost given args
 IsCommand name given (Export args) = (name ≡ codes "export") × AsksForModelOf given args
 IsCommand name given (States args) = (name ≡ codes "states") × IsStates given args
 IsCommand name given (StatesAlgorithm args) = (name ≡ codes "states") × IsAlgorithmStates given args
@@ -297,9 +336,17 @@ IsBadAlgorithmSearch given =
 abbrev pub IsBadTool : Given → Type 0
 IsBadTool given = (IsNone (first_of (codes "variant") given) → IsAlgorithmSearch given) × AsksForNoTool given
 
--- there is an algorithm to search, and a call is none of an algorithm, or there is no such model
+-- the greatest cost is asked for, and a call is none of an algorithm
+abbrev pub IsBadGreatestCost : Given → Type 0
+IsBadGreatestCost given = HasNoRounds given × IsBadAlgorithmSearch given
+
+-- the mean cost is asked for, and the numbers of its random schedules are outside their ranges
+abbrev pub IsBadMeanCost : Given → Type 0
+IsBadMeanCost given = HasNoSearch given × (IsHuntSize (cost_rounds_of given) (cost_steps_of given) → ⊥)
+
+-- there is an algorithm whose costs are asked for, and a call or a number is bad, or there is no such model
 abbrev pub IsBadCost : Given → Type 0
-IsBadCost given = IsCostSearch given × (IsBadAlgorithmSearch given ⊎ AsksForNoModel given)
+IsBadCost given = IsCostSearch given × (AsksForNoModel given ⊎ (IsBadGreatestCost given ⊎ IsBadMeanCost given))
 
 -- a size of its worlds is given to a hunt
 abbrev pub HasWorldSize : Given → Type 0
@@ -339,7 +386,7 @@ HasNoLock name given = IsNone (first_of (codes "variant") given)
     ⊎ (((name ≡ codes "shrink") × IsNone (first_of (codes "algorithm") given))
     ⊎ ((name ≡ codes "states") × (IsAlgorithmSearch given → ⊥)))))
 
--- there is no algorithm whose costs are asked for, or it is given an option that the command does not have for one
+-- there is no algorithm whose costs are asked for, or an option is given that the command does not have for one, or for what is asked
 abbrev pub HasNoAlgorithm : Text → Given → Type 0
 HasNoAlgorithm name given = (name ≡ codes "cost") × (IsCostSearch given → ⊥)
 

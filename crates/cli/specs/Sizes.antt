@@ -1,11 +1,11 @@
 -- The ranges of the program's numbers (Limits of docs/theory/model.md).
 use Rattle.std.specs.Prelude.{◌≤◌, ◌+◌, ℕ}
 use Rattle.cli.specs.declared.arguments.args.Command.{Command}
-use Rattle.cli.specs.declared.arguments.args.Command.TheVariants.{Replay, ReplayAlgorithm, Run, Hunt, HuntAlgorithm, Explore, ExploreAlgorithm, Cost, Export, States, StatesAlgorithm, Judge, Draw, DrawAlgorithm, Shrink, ShrinkAlgorithm, Step, StepAlgorithm, Explain}
+use Rattle.cli.specs.declared.arguments.args.Command.TheVariants.{Replay, ReplayAlgorithm, Run, Hunt, HuntAlgorithm, Explore, ExploreAlgorithm, Cost, MeanCost, Export, States, StatesAlgorithm, Judge, Draw, DrawAlgorithm, Shrink, ShrinkAlgorithm, Step, StepAlgorithm, Explain}
 use Rattle.cli.specs.declared.arguments.args.HuntArgs.{HuntArgs}
 use Rattle.cli.specs.declared.arguments.args.RunArgs.{RunArgs}
 
--- the rounds of a hunt, and the moves of a round
+-- the rounds of a hunt, or of random schedules whose costs are counted, and the moves of a round
 abbrev pub IsHuntSize : ℕ → ℕ → Type 0
 IsHuntSize rounds steps = ((1 ≤ rounds) × (rounds ≤ 10000)) × (1 ≤ steps) × (steps ≤ 10000)
 
@@ -31,6 +31,7 @@ IsInRanges (HuntAlgorithm args) = IsHuntSize args.rounds args.steps
 IsInRanges (Explore args) = Unit {0}
 IsInRanges (ExploreAlgorithm args) = Unit {0}
 IsInRanges (Cost args) = Unit {0}
+IsInRanges (MeanCost args) = IsHuntSize args.rounds args.steps
 IsInRanges (Export args) = Unit {0}
 IsInRanges (States args) = Unit {0}
 IsInRanges (StatesAlgorithm args) = Unit {0}

@@ -19,7 +19,7 @@ no_steps : (args : AlgorithmHuntArgs) → (args.steps ≡ 0) ⊎ (10000 < args.s
 no_steps args (inl none) fits = omega (arith, none, fits.0.1)
 no_steps args (inr more) fits = omega (arith, more, fits.0.2)
 
-no_world : (o : Option AlgorithmRefusal) (e : AlgorithmRefusal) → o ≡ Some e → o ≡ None → ⊥
+pub no_world : (o : Option AlgorithmRefusal) (e : AlgorithmRefusal) → o ≡ Some e → o ≡ None → ⊥
 no_world None e some none = cc
 no_world (Some x) e some none = cc
 

@@ -2,6 +2,7 @@ pub mod AlgorithmCosts
 pub mod AlgorithmExports
 pub mod AlgorithmExplores
 pub mod AlgorithmHunts
+pub mod AlgorithmMeanCosts
 pub mod AlgorithmPaths
 pub mod AlgorithmReplays
 pub mod AlgorithmSessions

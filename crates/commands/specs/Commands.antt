@@ -21,7 +21,7 @@ use Rattle.schedule.specs.declared.replays.verdict.Verdict.{Verdict}
 use Rattle.crashlab.specs.minimization.Shrunk.{Shrinks}
 use Rattle.diagram.specs.StepLines.{verdict_object}
 use Rattle.cli.specs.declared.arguments.args.Command.{Command}
-use Rattle.cli.specs.declared.arguments.args.Command.TheVariants.{Replay, ReplayAlgorithm, Run, Hunt, HuntAlgorithm, Explore, ExploreAlgorithm, Cost, Export, States, StatesAlgorithm, Judge, Draw, DrawAlgorithm, Shrink, ShrinkAlgorithm, Step, StepAlgorithm, Explain}
+use Rattle.cli.specs.declared.arguments.args.Command.TheVariants.{Replay, ReplayAlgorithm, Run, Hunt, HuntAlgorithm, Explore, ExploreAlgorithm, Cost, MeanCost, Export, States, StatesAlgorithm, Judge, Draw, DrawAlgorithm, Shrink, ShrinkAlgorithm, Step, StepAlgorithm, Explain}
 use Rattle.cli.specs.declared.arguments.args.HuntArgs.{HuntArgs}
 use Rattle.cli.specs.declared.arguments.args.RunArgs.{RunArgs}
 use Rattle.cli.specs.Sizes.{HuntFits, RunFits}
@@ -32,6 +32,7 @@ use Rattle.commands.specs.Conversations.{SessionEnds, lock_machine}
 use Rattle.commands.specs.Devices.{Devices, devices}
 use Rattle.commands.specs.AlgorithmCosts.{AlgorithmCostEnds}
 use Rattle.commands.specs.AlgorithmExports.{AlgorithmExportEnds}
+use Rattle.commands.specs.AlgorithmMeanCosts.{AlgorithmMeanEnds}
 use Rattle.commands.specs.AlgorithmDraws.{AlgorithmDrawEnds}
 use Rattle.commands.specs.AlgorithmExplores.{AlgorithmExploreEnds}
 use Rattle.commands.specs.AlgorithmHunts.{AlgorithmHuntEnds}
@@ -157,6 +158,7 @@ CommandEnds (HuntAlgorithm args) image old new before now end = (new ≡ old) ×
 CommandEnds (Explore args) image old new before now end = ExploreEnds args before now end
 CommandEnds (ExploreAlgorithm args) image old new before now end = (new ≡ old) × AlgorithmExploreEnds args image before now end
 CommandEnds (Cost args) image old new before now end = (new ≡ old) × AlgorithmCostEnds args image before now end
+CommandEnds (MeanCost args) image old new before now end = (new ≡ old) × AlgorithmMeanEnds args image before now end
 CommandEnds (Export args) image old new before now end = (new ≡ old) × AlgorithmExportEnds args image before now end
 CommandEnds (States args) image old new before now end = StatesEnds args old new before now end
 CommandEnds (StatesAlgorithm args) image old new before now end = AlgorithmStatesEnd args image old new before now end

@@ -5,6 +5,7 @@ pub mod AlgorithmExplores
 pub mod AlgorithmFaults
 pub mod AlgorithmFindings
 pub mod AlgorithmHunts
+pub mod AlgorithmMeanCosts
 pub mod AlgorithmReplays
 pub mod AlgorithmSessions
 pub mod AlgorithmShrinks

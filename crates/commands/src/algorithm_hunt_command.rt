@@ -25,7 +25,7 @@ use std::alloc::Global;
 use std::thread::Threads;
 
 /// The command's fault for a fault of a hunt.
-fn hunt_fault(fault: AlgorithmHuntFault) -> CommandFault
+pub(crate) fn hunt_fault(fault: AlgorithmHuntFault) -> CommandFault
     ensures { result ≡ fault_of_hunt fault }
 {
     match fault {

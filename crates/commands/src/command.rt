@@ -18,6 +18,7 @@ use crate::algorithm_cost_command::algorithm_cost_command;
 use crate::algorithm_explore_command::algorithm_explore_command;
 use crate::algorithm_export_command::algorithm_export_command;
 use crate::algorithm_hunt_command::algorithm_hunt_command;
+use crate::algorithm_mean_command::algorithm_mean_command;
 use crate::explore_command::explore_command;
 use crate::folder::{Folder, NoFolder};
 use crate::jobs::jobs_of;
@@ -257,6 +258,7 @@ pub fn carry_out<T: Threads + Wait + Sync, F: Folder, S: Screen, R: Source, W: S
             algorithm_explore_command(rt, alloc, args, image, screen, w)
         }
         Command::Cost(args) => algorithm_cost_command(alloc, args, image, screen, w),
+        Command::MeanCost(args) => algorithm_mean_command(alloc, args, image, w),
         Command::Export(args) => algorithm_export_command(alloc, args, image, w),
         Command::States(args) => states_command(alloc, args, r, w),
         Command::StatesAlgorithm(args) => algorithm_states_command(alloc, args, image, r, w),

@@ -8,6 +8,7 @@ pub mod algorithm_explore_command;
 pub mod algorithm_export_command;
 pub mod algorithm_fault;
 pub mod algorithm_hunt_command;
+pub mod algorithm_mean_command;
 mod algorithm_starvation;
 mod algorithm_stuck;
 pub mod command;

@@ -68,6 +68,7 @@ pub fn runs_threads(read: &Command) -> bool {
         | Command::HuntAlgorithm(_)
         | Command::ExploreAlgorithm(_)
         | Command::Cost(_)
+        | Command::MeanCost(_)
         | Command::Export(_)
         | Command::States(_)
         | Command::StatesAlgorithm(_)

@@ -175,6 +175,20 @@ pub struct CostArgs {
     pub kind: PassageKind,
 }
 
+/// `cost --mean`: counts the remote references of the passages of an algorithm on random schedules.
+#[derive(Debug, Drop, PartialEq, Eq)]
+pub struct MeanCostArgs {
+    /// The file of the algorithm's text.
+    pub algorithm: String,
+    pub model: MemoryModel,
+    pub procs: u64,
+    pub limit: u64,
+    pub seed: u64,
+    pub rounds: u64,
+    /// The number of moves of a round.
+    pub steps: u64,
+}
+
 /// `export`: writes the model of an algorithm in another tool's language.
 #[derive(Debug, Drop, PartialEq, Eq)]
 pub struct ExportArgs {
@@ -305,6 +319,7 @@ pub enum Command {
     Explore(ExploreArgs),
     ExploreAlgorithm(AlgorithmExploreArgs),
     Cost(CostArgs),
+    MeanCost(MeanCostArgs),
     Export(ExportArgs),
     States(StatesArgs),
     StatesAlgorithm(AlgorithmStatesArgs),
@@ -351,6 +366,7 @@ impl Command {
             Command::HuntAlgorithm(args) => Some(&args.algorithm),
             Command::ExploreAlgorithm(args) => Some(&args.algorithm),
             Command::Cost(args) => Some(&args.search.algorithm),
+            Command::MeanCost(args) => Some(&args.algorithm),
             Command::Export(args) => Some(&args.algorithm),
             Command::StatesAlgorithm(args) => Some(&args.search.algorithm),
             Command::Draw(args) => args.image.as_ref(),

@@ -53,17 +53,18 @@ if nothing was found, 1 if a schedule was, 2 after a fault of the words or the a
 of memory, or if there are more states than --states.\n\nExample: rmelab explore --variant no-look --procs 2";
 
 const COST_HELP: &str =
-    "In: the algorithm's text: docs/use/algorithms.md. All its schedules are tried whose moves are the start \
-of a call of --calls, one step, a crash, of which there are at most --crashes, or a crash of all processes, of which \
-there are at most --system-crashes. A passage costs each access of its process that is remote in the model: \
-docs/dev/texts.md.\nOut: a schedule that reaches the greatest cost, and the line `process P passage cost K`; or, if \
-none is the greatest, a schedule and the line `process P passage cost unbounded cycle K`: its last K moves can be \
-made again and again, and cost something each time. With --super-passages the line has `super-passage` in place of \
-`passage`. Nothing is said of a greater size, limit or number of crashes.\nShown: on standard error, if that is a \
-terminal, the states, how many moves deep and the states a second, once a second while it works.\nExit status: 0 if a \
-cost is the greatest, 1 if none is, 2 after a fault of the words or the algorithm, 3 after one of a device or of \
-memory, or if there are more states than --states.\n\nExample: rmelab cost --algorithm examples/algorithms/mcs.lock \
---model write-back --procs 2";
+    "In: the algorithm's text: docs/use/algorithms.md. All its schedules are tried whose moves are the start of a call of --calls, one \
+step, a crash, of which there are at most --crashes, or a crash of all processes, of which there are at most --system-crashes. With \
+--mean schedules are drawn: --rounds of --steps moves each, a move being a step of a process or, where it has no call, the start of \
+one. A passage costs each access of its process that is remote in the model: docs/dev/texts.md.\nOut: a schedule that reaches the \
+greatest cost, and the line `process P passage cost K`; or, if none is the greatest, a schedule and the line `process P passage cost \
+unbounded cycle K`: its last K moves can be made again and again, and cost something each time. With --super-passages the line has \
+`super-passage` in place of `passage`. Nothing is said of a greater size, limit or number of crashes. With --mean the line `passages N \
+cost K mean M`: N passages were completed, K is what they cost together, and M is K/N, rounded down to hundredths; or, if none was, \
+`passages 0 cost 0`.\nShown: on standard error, if that is a terminal, the states, how many moves deep and the states a second, once a \
+second while it works.\nExit status: 0 if a cost is the greatest, or with --mean, 1 if none is, 2 after a fault of the words or the \
+algorithm, 3 after one of a device or of memory, or if there are more states than --states.\n\nExample: rmelab cost --algorithm \
+examples/algorithms/mcs.lock --model write-back --procs 2";
 
 const STATES_HELP: &str =
     "In: nothing for first; else texts of states: a header and then a line for each state, as first writes them; with \
@@ -256,7 +257,7 @@ fn explore<'a>(alloc: Global) -> Result<Parser<'a>, AllocError>
 fn cost<'a>(alloc: Global) -> Result<Parser<'a>, AllocError>
     ensures { IfOk result (IsParser (app_of_shape cost)) }
 {
-    let about = "Looks for the greatest number of remote references of a passage of an algorithm";
+    let about = "Counts the remote references of a passage of an algorithm: the most, or the mean";
     let calls = "The calls that are started, as for `explore`";
     let arguments = [
         Argument::algorithm().as_required(),
@@ -275,6 +276,13 @@ fn cost<'a>(alloc: Global) -> Result<Parser<'a>, AllocError>
         ),
         Argument::number("states", "S", "At most S states; 10000000 without it"),
         Argument::number("limit", "L", "Numbers up to L; 4 without it"),
+        Argument::flag(
+            "mean",
+            "Count on random schedules: --seed, --rounds and --steps go with it alone, and --limit is 1000000 without it; not with --super-passages, --calls, --crashes, --system-crashes or --states",
+        ),
+        Argument::number("seed", "S", "The seed of the moves; 0 without it"),
+        Argument::number("rounds", "R", "1 to 10000 rounds; 100 without it"),
+        Argument::number("steps", "K", "1 to 10000 moves a round; 1000 without it"),
     ];
     command(alloc, "cost", about, COST_HELP, &arguments)
 }

@@ -37,15 +37,16 @@ pub enum WordsFault {
     #[error("{text}")]
     Help { text: String },
     /// The error text of `clap`, that the words name no entry, that an option is beside `--algorithm` which the command does not
-    /// have there, that `explore`, `states`, `hunt` or `shrink` has neither a variant nor an algorithm, or that `cost` or `export` has
-    /// no algorithm. It is printed to standard error; the exit status is 2.
+    /// have there, that `explore`, `states`, `hunt` or `shrink` has neither a variant nor an algorithm, that `cost` or `export` has no
+    /// algorithm, or that an option of `cost` does not go with `--mean`, or only with it. It is printed to standard error; the exit
+    /// status is 2.
     #[error("{text}")]
     Refused { text: String },
     /// There is no such variant, it isn't `right` and an image is given, or an algorithm is given beside a variant, an image or a
     /// file for the last image; the exit status is 2.
     #[error("bad variant")]
     BadVariant,
-    /// A number of `run` or `hunt` is outside its range, `--procs` or `--limit` of `hunt` is beside a variant, a call of
+    /// A number of `run`, `hunt` or `cost` is outside its range, `--procs` or `--limit` of `hunt` is beside a variant, a call of
     /// `explore`, `cost` or `states` is none, or none of an algorithm, `--stuck` is beside `--moves`, `states` has no such tool,
     /// or `cost` no such model; the exit status is 2.
     #[error("bad size")]
@@ -316,8 +317,8 @@ fn fault_of_error(alloc: Global, error: &Error) -> Result<WordsFault, AllocError
 
 /// Reads the words of a command line. The first word is the program's name. A refusal by `clap` is found first, then a bad
 /// variant, then a bad size. Words of `explain` that name no entry are refused in the same way as by `clap`; so are options beside
-/// `--algorithm` that the command does not have there, before a bad size, and `explore`, `states`, `hunt`, `shrink`, `cost` or
-/// `export` with nothing to run.
+/// `--algorithm`, or options of `cost` with or without `--mean`, that the command does not have there, before a bad size, and
+/// `explore`, `states`, `hunt`, `shrink`, `cost` or `export` with nothing to run.
 pub fn read_words(alloc: Global, words: &[String]) -> Result<Command, WordsFault>
     ensures sized { IfOk result IsInRanges }
     ensures command { IfOk result (λ command. TakesWords (texts_of words.now) (λ name given. IsCommand name given command)) }

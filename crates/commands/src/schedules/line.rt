@@ -1,10 +1,11 @@
 //! The one line of a fault, in a buffer of fixed size: it needs no memory.
 
-ghost use Rattle.std.specs.Prelude.{◌≡◌, ◌+◌, ◌≤◌, ◌++◌, ◌∷◌, [], Some, codes, length};
+ghost use Rattle.std.specs.Prelude.{◌≡◌, ◌+◌, ◌<◌, ◌≤◌, ◌*◌, ◌/◌, ◌%◌, ◌++◌, ◌∷◌, [], Some, codes, length};
 ghost use Rattle.std.specs.Fmt.{decimal};
 ghost use Rattle.commands.specs.AlgorithmCosts.{cost_line as cost_line_by, kind_text as kind_text_by, unbounded_line as unbounded_line_by};
 ghost use Rattle.commands.specs.AlgorithmExplores.{all_line_but};
 ghost use Rattle.commands.specs.AlgorithmFaults.{number_of_text_fault, sentence_of};
+ghost use Rattle.commands.specs.AlgorithmMeanCosts.{hundredths_text, mean_line as mean_line_by};
 ghost use Rattle.commands.specs.Lines.{fault_line, IsLineWritten};
 ghost use Rattle.commands.specs.Starvation.{starves_line as starves_line_by};
 ghost use Rattle.commands.specs.StatesFaults.{number_of_states_fault, sentence_of_states_fault};
@@ -13,7 +14,7 @@ ghost use Rattle.commands.specs.Statuses.{status_of};
 use crate::algorithm_fault::{number_of_text_fault, sentence_of};
 use crate::schedules::fault::CommandFault;
 use crate::states::states_fault::StatesFault;
-use algorithm_explorer::LeftOut;
+use algorithm_explorer::{CostTotals, LeftOut};
 use algorithms::{PassageKind, ReadFault};
 use arrayvec::ArrayString;
 use itoa::Buffer;
@@ -122,6 +123,48 @@ pub(crate) fn unbounded_line(kind: PassageKind, process: u64, cycle: u64) -> Arr
     put(&mut line, "process ", process);
     line.push_str(kind_text(kind));
     put(&mut line, "unbounded cycle ", cycle);
+    line.push_str("\n");
+    line
+}
+
+/// The mean of these costs, rounded down to hundredths: the whole ones, the tenths and the hundredths.
+fn mean_of(sum: u64, count: u64) -> (u64, u64, u64)
+    requires { 0 < count }
+    ensures whole { result.0 ≡ 100 * sum / count / 100 }
+    ensures tenths { result.1 ≡ 100 * sum / count / 10 % 10 }
+    ensures hundredths { result.2 ≡ 100 * sum / count % 10 }
+{
+    let mean = 100 * u128::from(sum) / u128::from(count);
+    (
+        (mean / 100) as u64,
+        (mean / 10 % 10) as u64,
+        (mean % 10) as u64,
+    )
+}
+
+/// Appends the mean of these costs to a line.
+fn put_mean(line: &mut ArrayString<128>, totals: CostTotals)
+    requires few { length line.old.bytes ≤ 55 }
+    requires some { 0 < totals.count }
+    ensures bytes { line.new.bytes ≡ line.old.bytes ++ codes " mean " ++ hundredths_text (100 * totals.sum / totals.count) }
+    ensures few { length line.new.bytes ≤ 123 }
+{
+    let (whole, tenths, hundredths) = mean_of(totals.sum, totals.count);
+    put(line, " mean ", whole);
+    put(line, ".", tenths);
+    put(line, "", hundredths);
+}
+
+/// The line that tells how many passages random schedules complete, what they cost together, and the mean.
+pub(crate) fn mean_line(totals: CostTotals) -> ArrayString<128>
+    ensures { result.bytes ≡ mean_line_by totals }
+{
+    let mut line = ArrayString::new();
+    put(&mut line, "passages ", totals.count);
+    put(&mut line, " cost ", totals.sum);
+    if totals.count > 0 {
+        put_mean(&mut line, totals);
+    }
     line.push_str("\n");
     line
 }

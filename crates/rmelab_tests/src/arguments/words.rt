@@ -106,6 +106,12 @@ system_crashes: 0, \
 moves: 18446744073709551615, states: 10000000, limit: 1, stuck: false, starving: None, jobs: 0 }, model: WriteBack, \
 kind: SuperPassage })
 
+rmelab cost --algorithm a.lock --model dsm --procs 3 --mean
+MeanCost(MeanCostArgs { algorithm: \"a.lock\", model: Distributed, procs: 3, limit: 1000000, seed: 0, rounds: 100, steps: 1000 })
+
+rmelab cost --mean --steps 10000 --rounds 10000 --seed 7 --limit 9 --algorithm a.lock --model write-through --procs 2
+MeanCost(MeanCostArgs { algorithm: \"a.lock\", model: WriteThrough, procs: 2, limit: 9, seed: 7, rounds: 10000, steps: 10000 })
+
 rmelab replay --algorithm a.lock --json b.rme
 ReplayAlgorithm(AlgorithmReplayArgs { algorithm: \"a.lock\", json: true, each: false, file: Some(\"b.rme\") })
 

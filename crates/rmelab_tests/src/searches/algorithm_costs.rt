@@ -8,6 +8,7 @@ use std::test::Fail;
 
 /// `COSTLY`: process 0 stores three times, and reads each of the other's words anew. `SHARED`: the other has read its flag before it
 /// stores again. `FREE`: nobody starts a lock. `ALONE_COSTS`: it reads the word, and stores twice. `SPINS`: it waits for itself.
+/// `NO_SEARCH`: what is printed for an option that does not go with `--mean`, or only with it.
 pub const TEXTS: &str = "
 @text COSTLY
 rme 1 procs 2 limit 4 cap 1
@@ -72,8 +73,14 @@ crash 0
 lock 0
 step 0
 process 0 passage cost unbounded cycle 1
+@text NO_SEARCH
+error: with '--mean' there is no '--super-passages', no '--calls', no '--crashes', no '--system-crashes' and no '--states', and without it no '--seed', no '--rounds' and no '--steps'
+
+For more information, try '--help'.
 ";
 
+/// Of those with `--mean` the first has the numbers of the reference program. Of one process the first passage costs 3, and each later
+/// one 2, as it has a copy of the word that it reads; written back, the first costs 2, and each later one nothing.
 const COSTS: &str = "
 @row rmelab cost --algorithm a.lock --model write-through --procs 2 @file a.lock PETERSON @out COSTLY
 @row rmelab cost --algorithm a.lock --model write-back --procs 2 --super-passages @file a.lock PETERSON @out SHARED
@@ -86,6 +93,22 @@ rmelab: too many states
 @row rmelab cost --algorithm a.lock --model dsm --procs 2 --limit 0 @file a.lock PETERSON @ends 2 @err BAD_SIZE
 @row rmelab cost --algorithm a.lock --model numa --procs 2 @ends 2 @err BAD_SIZE
 @row rmelab cost --algorithm a.lock --model dsm --procs 2 --calls lock,close @ends 2 @err BAD_SIZE
+@row rmelab cost --algorithm a.lock --model dsm --procs 2 --mean --seed 7 --rounds 20 --steps 500 @file a.lock PETERSON @out
+passages 1123 cost 7556 mean 6.72
+@row rmelab cost --algorithm a.lock --model write-through --procs 1 --mean --rounds 1 --steps 500 @file a.lock ONE_WORD @out
+passages 100 cost 201 mean 2.01
+@row rmelab cost --algorithm a.lock --model write-back --procs 1 --mean --limit 1 --rounds 2 @file a.lock ONE_WORD @out
+passages 400 cost 4 mean 0.01
+@row rmelab cost --algorithm a.lock --model dsm --procs 2 --mean --steps 1 @file a.lock PETERSON @out
+passages 0 cost 0
+@row rmelab cost --algorithm a.lock --model dsm --procs 3 --mean @file a.lock PETERSON @ends 2 @err BAD_SIZE
+@row rmelab cost --algorithm a.lock --model dsm --procs 2 --mean --limit 0 @file a.lock PETERSON @ends 2 @err BAD_SIZE
+@row rmelab cost --algorithm a.lock --model numa --procs 2 --mean @ends 2 @err BAD_SIZE
+@row rmelab cost --algorithm a.lock --model dsm --procs 2 --mean --rounds 10001 @ends 2 @err BAD_SIZE
+@row rmelab cost --algorithm a.lock --model dsm --procs 2 --mean --steps 0 @ends 2 @err BAD_SIZE
+@row rmelab cost --algorithm a.lock --model numa --procs 2 --mean --super-passages @ends 2 @err NO_SEARCH
+@row rmelab cost --algorithm a.lock --model dsm --procs 2 --mean --crashes 1 @ends 2 @err NO_SEARCH
+@row rmelab cost --algorithm a.lock --model dsm --procs 2 --seed 1 @ends 2 @err NO_SEARCH
 ";
 
 const COSTS_THAT_FAIL: &str = "
@@ -94,6 +117,9 @@ rmelab: algorithm line 6: fault 7: a second access in one line
 @row rmelab cost --algorithm a.lock --model dsm --procs 2 @ends 3 @err UNREAD
 @row rmelab cost --algorithm a.lock --model dsm --procs 2 @file a.lock PETERSON @fails file-read @ends 3 @err UNREAD
 @row rmelab cost --algorithm a.lock --model write-through --procs 2 @file a.lock PETERSON @fails write @ends 3 @err UNWRITTEN
+@row rmelab cost --algorithm a.lock --model dsm --procs 2 --mean @file a.lock HIDDEN @ends 2 @err
+rmelab: algorithm line 6: fault 7: a second access in one line
+@row rmelab cost --algorithm a.lock --model dsm --procs 2 --mean --steps 1 @file a.lock PETERSON @fails write @ends 3 @err UNWRITTEN
 ";
 
 #[test]

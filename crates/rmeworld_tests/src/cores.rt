@@ -1,7 +1,7 @@
 //! The worked rows on a simulated core. A script is like one for a world (`played`), without data words. `step 0 7 in` ends
 //! with this answer of the core.
 
-use super::phrase::{Phrase, Table, all_hold, found_of, is_refusal, place};
+use super::phrase::{Phrase, found_of, is_refusal, place};
 use super::played::are_words;
 use rmecore::{Core, CoreDone, Happened, Kind, Outer, Refusal, Word};
 use std::alloc::Global;
@@ -96,70 +96,65 @@ fn is_so(core: &mut Core, phrase: &Phrase<'_>) -> bool {
     }
 }
 
+/// Whether the next step of a process reads this value, as in `look 1 0 2`: process 1 looks at choosing of 0, and reads 2.
+fn is_reading(core: &mut Core, phrase: &Phrase<'_>) -> bool {
+    let of = phrase.number(1);
+    let (kind, word) = if phrase.word == "look" {
+        (Kind::Look, Word::Choosing(of))
+    } else {
+        (Kind::Weigh, Word::Number(of))
+    };
+    match core.step(phrase.number(0)) {
+        Ok(happened) => {
+            happened.kind == kind && happened.word == word && happened.value == phrase.number(2)
+        }
+        Err(_) => false,
+    }
+}
+
 /// Plays a line. True: it has the result that the line says.
 fn line(core: &mut Core, text: &str, deeds: &mut &str) -> bool {
     let phrase = Phrase::read(text);
     let p = phrase.number(0);
-    match place("step|crash|refused", phrase.word) {
+    match place("step|crash|refused|look|weigh", phrase.word) {
         Some(0) => {
             let wanted = done_of(phrase.rest);
             wanted.is_some() != phrase.rest.is_empty()
                 && step(core, deeds, (p, phrase.number(1)), wanted)
         }
         Some(1) => is_reported(deeds, core.crash(p).ok()),
-        Some(_) => is_refused(core, text.strip_prefix("refused ").unwrap_or("")),
+        Some(2) => is_refused(core, text.strip_prefix("refused ").unwrap_or("")),
+        Some(_) => is_reading(core, &phrase),
         None => is_so(core, &phrase),
-    }
-}
-
-/// The number, from 1, of the first line with another result than it says. 0: the deeds are not all of these deeds.
-fn first_wrong(core: &mut Core, script: &str, deeds: &str) -> Option<u64> {
-    let mut rest = script;
-    let mut untold = deeds;
-    let mut at = 0u64;
-    for _ in 0..script.len() {
-        if rest.is_empty() {
-            break;
-        }
-        at = at.saturating_add(1);
-        if !line(core, cut(&mut rest, "; "), &mut untold) {
-            return Some(at);
-        }
-    }
-    if untold.is_empty() || untold == "any" {
-        None
-    } else {
-        Some(0)
     }
 }
 
 /// Whether the script has the results that it says, and its deeds are those of the row.
 fn is_played(core: &mut Core, row: &str) -> bool {
     let mut deeds = row;
-    let script = cut(&mut deeds, " | ");
-    first_wrong(core, script, deeds).is_none()
+    let mut rest = cut(&mut deeds, " | ");
+    for _ in 0..row.len() {
+        if rest.is_empty() {
+            break;
+        }
+        if !line(core, cut(&mut rest, "; "), &mut deeds) {
+            return false;
+        }
+    }
+    deeds.is_empty() || deeds == "any"
 }
 
-/// Rows on new cores. A row has the number of processes and the limit, and then a script and its deeds, or the refusal of the
-/// sizes, as `refused 1`. A line that begins with `#` is a comment.
-#[derive(Drop)]
-pub struct OnCores;
-
-impl Table for OnCores {
-    fn holds(&self, alloc: Global, row: &str) -> bool {
-        let mut rest = row;
-        let sizes = Phrase::read(cut(&mut rest, ": "));
-        if sizes.word == "#" {
-            return true;
-        }
-        match Core::new(alloc, sizes.number(0), sizes.number(1)) {
-            Ok(mut core) => is_played(&mut core, rest),
-            Err(refusal) => is_refusal(refusal, rest),
-        }
+/// A row on a new core: the number of processes and the limit, and then a script and its deeds, or the refusal of the sizes,
+/// as `refused 1`.
+pub fn holds(alloc: Global, sizes: &Phrase<'_>, rest: &str) -> bool {
+    match Core::new(alloc, sizes.number(0), sizes.number(1)) {
+        Ok(mut core) => is_played(&mut core, rest),
+        Err(refusal) => is_refusal(refusal, rest),
     }
 }
 
-const LOCK_ROWS: &str = "\
+pub const LOCK_ROWS: &str = "\
+cores: lock rows
 # smallest
 sizes 1 10: lock 0; step 0 7 in; words 0 0 1 1 | begin 0; ready 0; enter 0
 # first-steps
@@ -173,12 +168,8 @@ sizes 2 10: lock 0; step 0 6; crash 0; lock 1; step 1 8; lock 0; step 0 7 in; st
 # re-entry
 sizes 2 10: lock 0; step 0 10 in; lock 1; step 1 7; crash 0; step 1 3; lock 0; step 0 3 in-again; words 1 0 2 0 | begin 0; ready 0; enter 0; begin 1; ready 1; crash 0; reenter 0";
 
-#[test]
-fn lock_rows(rt: HostRuntime) {
-    all_hold(&rt, rt.alloc(), &OnCores, LOCK_ROWS);
-}
-
-const ENDS_OF_WAITING: &str = "\
+pub const ENDS_OF_WAITING: &str = "\
+cores: ends of waiting
 # half-an-exit: the number is cleared, so the next process enters; the mark is left to the recovery
 sizes 2 10: lock 0; step 0 10 in; lock 1; step 1 8; unlock 0; step 0 1; crash 0; step 1 2 in; recover 0; step 0 4 found left; words 0 0 0 0; words 1 0 2 1 | begin 0; ready 0; enter 0; begin 1; ready 1; leave 0; crash 0; enter 1
 # number-limit
@@ -188,48 +179,14 @@ sizes 2 10: lock 0; step 0 7; lock 1; step 1 9; withdraw 0; step 0 1 withdrawn; 
 # withdraw-and-return
 sizes 2 10: lock 0; step 0 10 in; lock 1; step 1 9; withdraw 1; step 1 1 withdrawn; lock 1; step 1 9; unlock 0; step 0 2 out; step 1 2 in; words 1 0 2 1; blocked 1 1; steps 1 11 | begin 0; ready 0; enter 0; begin 1; ready 1; quit 1; begin 1; ready 1; leave 0; enter 1";
 
-#[test]
-fn ends_of_waiting(rt: HostRuntime) {
-    all_hold(&rt, rt.alloc(), &OnCores, ENDS_OF_WAITING);
-}
-
-fn core_after(alloc: Global, procs: u64, limit: u64, script: &str, deeds: &str) -> Option<Core> {
-    let mut core = Core::new(alloc, procs, limit).ok()?;
-    match first_wrong(&mut core, script, deeds) {
-        None => Some(core),
-        Some(_) => None,
-    }
-}
-
-fn is_reading(happened: Result<Happened, Refusal>, kind: Kind, word: Word, value: u64) -> bool {
-    match happened {
-        Ok(happened) => {
-            happened.kind == kind && happened.word == word && happened.value == value
-        }
-        Err(_) => false,
-    }
-}
-
-/// Whether the next two steps of process 1 are a look that reads 0 and a weigh that reads the number 1.
-fn looks_and_weighs(core: &mut Core) -> bool {
-    is_reading(core.step(1), Kind::Look, Word::Choosing(0), 0)
-        && is_reading(core.step(1), Kind::Weigh, Word::Number(0), 1)
-}
-
 /// There is no weigh without a look: 1 waits for the process in its doorway, and then the tie decides.
-#[test]
-fn looks_first(rt: HostRuntime) {
-    let script = "lock 0; lock 1; step 0 5; step 1 6; step 1 4; step 0 5 in; blocked 1 3";
-    let deeds = "begin 0; begin 1; ready 1; ready 0; enter 0";
-    let is_so = match core_after(rt.alloc(), 2, 10, script, deeds) {
-        Some(mut core) => looks_and_weighs(&mut core),
-        None => false,
-    };
-    assert!(rt; is_so);
-}
+pub const LOOKS_FIRST: &str = "\
+cores: looks first
+sizes 2 10: lock 0; lock 1; step 0 5; step 1 6; step 1 4; step 0 5 in; blocked 1 3; look 1 0 0; weigh 1 0 1 | begin 0; begin 1; ready 1; ready 0; enter 0";
 
 /// All 64 processes crash. Their words are kept, and the locks go on from them.
-const CRASH_OF_EVERYTHING: &str = "\
+pub const CRASH_OF_EVERYTHING: &str = "\
+cores: crash of everything
 sizes 64 100: lock 0; step 0 196 in; lock 1; step 1 69; crash 0; crash 1; crash 2; crash 3; crash 4; crash 5; crash 6; \
 crash 7; crash 8; crash 9; crash 10; crash 11; crash 12; crash 13; crash 14; crash 15; crash 16; crash 17; crash 18; \
 crash 19; crash 20; crash 21; crash 22; crash 23; crash 24; crash 25; crash 26; crash 27; crash 28; crash 29; crash \
@@ -244,25 +201,17 @@ crash 34; crash 35; crash 36; crash 37; crash 38; crash 39; crash 40; crash 41; 
 45; crash 46; crash 47; crash 48; crash 49; crash 50; crash 51; crash 52; crash 53; crash 54; crash 55; crash 56; \
 crash 57; crash 58; crash 59; crash 60; crash 61; crash 62; crash 63; reenter 0";
 
-#[test]
-fn crash_of_everything(rt: HostRuntime) {
-    all_hold(&rt, rt.alloc(), &OnCores, CRASH_OF_EVERYTHING);
-}
-
 /// Refusals for a process that does not exist, and for a process at rest, in the doorway, waiting and inside. Any process
 /// may crash, also an idle or a crashed one. A crash ends the call under way.
-const REFUSED_CALLS: &str = "\
+pub const REFUSED_CALLS: &str = "\
+cores: refused calls
 sizes 2 10: refused 3 lock 2; refused 3 recover 2; refused 3 unlock 2; refused 3 withdraw 2; refused 3 step 2; refused 3 crash 2; refused 3 words 2; refused 3 steps 2; refused 3 blocked 2; refused 3 began 2
 sizes 2 10: steps 0 0; blocked 0 0; began 0 0 0 0; refused 7 step 0; refused 5 unlock 0; refused 14 withdraw 0
 sizes 2 10: crash 1; crash 1; lock 0; step 0 10 in; unlock 0; crash 0; refused 7 step 0; refused 5 unlock 0; words 0 0 1 1 | crash 1; crash 1; begin 0; ready 0; enter 0; crash 0";
 
-#[test]
-fn refused_calls(rt: HostRuntime) {
-    all_hold(&rt, rt.alloc(), &OnCores, REFUSED_CALLS);
-}
-
 /// At each step of a lock another call is refused, a withdraw until it is waiting; then the same of a process that is inside.
-const OUT_OF_PLACE: &str = "\
+pub const OUT_OF_PLACE: &str = "\
+cores: out of place
 sizes 2 10: lock 0; refused 4 lock 0; refused 4 recover 0; refused 4 unlock 0; refused 14 withdraw 0; step 0 1; \
 refused 4 lock 0; refused 4 recover 0; refused 4 unlock 0; refused 14 withdraw 0; step 0 1; refused 4 lock 0; refused \
 4 recover 0; refused 4 unlock 0; refused 14 withdraw 0; step 0 1; refused 4 lock 0; refused 4 recover 0; refused 4 \
@@ -273,19 +222,10 @@ refused 4 lock 0; refused 4 recover 0; refused 4 unlock 0; refused 14 withdraw 0
 refused 4 lock 0; refused 4 recover 0; refused 4 unlock 0; step 0 1 in; refused 6 lock 0; refused 6 recover 0; refused \
 14 withdraw 0; refused 7 step 0 | begin 0; ready 0; enter 0";
 
-#[test]
-fn out_of_place(rt: HostRuntime) {
-    all_hold(&rt, rt.alloc(), &OnCores, OUT_OF_PLACE);
-}
-
-const REFUSED_SIZES: &str = "\
+pub const REFUSED_SIZES: &str = "\
+cores: refused sizes
 sizes 0 0: refused 1
 sizes 65 10: refused 1
 sizes 64 0: refused 2
 sizes 1 4611686018427387905: refused 2
 sizes 64 4611686018427387904: lock 0";
-
-#[test]
-fn refused_sizes(rt: HostRuntime) {
-    all_hold(&rt, rt.alloc(), &OnCores, REFUSED_SIZES);
-}

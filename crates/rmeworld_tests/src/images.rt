@@ -1,9 +1,10 @@
 //! Texts of images: worked ones, broken ones, and other spellings.
 
-use super::phrase::{Phrase, Table, all_hold, no_line};
+use super::judges;
+use super::phrase::{Phrase, place};
 use judge::{Judge, Start};
-use redomail::{Layout, Message};
-use rmecore::{Own, Phase, Refusal};
+use redomail::Layout;
+use rmecore::{Own, Refusal};
 use rmeworld::image::rules::{find_in, layout, word};
 use rmeworld::{DataWords, Image, Owns, first_rule, read_image, start_of, widen, write_image};
 use std::alloc::{AllocError, Global};
@@ -32,36 +33,6 @@ const SHOWN: &str =
 const WIDENED_SHOWN: &str =
     "{\"cap\":1,\"data\":[0,0,1,1,0,1,77,0,0,5,6,7,8,1,0,1,77,0,0],\"limit\":10,\"lock\":[[0,1,1]],\"version\":2,\"width\":3}\n";
 
-/// The rule that a text breaks. 98: out of memory.
-fn rule_of(alloc: Global, text: &[u8]) -> Option<u64> {
-    match read_image(alloc, text) {
-        Ok(_) => None,
-        Err(Refusal::BadImage { rule }) => Some(rule),
-        Err(_) => Some(98),
-    }
-}
-
-/// Reads an image and writes it.
-fn written_again(alloc: Global, text: &[u8]) -> Result<Vec<u8>, Refusal> {
-    let image = read_image(alloc, text)?;
-    write_image(alloc, &image)
-}
-
-/// Reads an image, widens it and writes it.
-fn widened(alloc: Global, text: &[u8], width: u64) -> Result<Vec<u8>, Refusal> {
-    let image = read_image(alloc, text)?;
-    let wider = widen(alloc, &image, width)?;
-    write_image(alloc, &wider)
-}
-
-/// Whether the written text is this one.
-fn is_text(written: Result<Vec<u8>, Refusal>, text: &str) -> bool {
-    match written {
-        Ok(written) => written.as_slice() == text.as_bytes(),
-        Err(_) => false,
-    }
-}
-
 /// The members in another order, with white space.
 const SPACED: &str =
     " { \"width\" : 1 , \"version\":2,\"lock\":[ [0,1,1] ],\"limit\":10,\"data\":[0,0,0,0,0,0,0,0,0,0,0,0,0,0,0],\"cap\":1}\r\n";
@@ -78,49 +49,167 @@ const TWICE: &str =
 const ESCAPED: &str =
     "{\"c\\u0061p\":1,\"data\":[0,0,0,0,0,0,0,0,0,0,0,0,0,0,0],\"limit\":10,\"lock\":[[0,1,1]],\"version\":2,\"width\":1}";
 
-/// Whether the text is written back as the other one.
-fn is_written_as(alloc: Global, text: &str, wanted: &str) -> bool {
-    is_text(written_again(alloc, text.as_bytes()), wanted)
-}
+/// Four processes: one in the doorway, two ready and one out. The mailbox is closed and the lock is ruined.
+const FOUR: &str =
+    "{\"cap\":1,\"data\":[1,1,0,0,0,0,0,0,0,0,0,0,0,0,0,0,0,0],\"limit\":10,\"lock\":[[1,0,0],[0,5,0],[1,3,0],[0,0,1]],\"version\":2,\"width\":1}";
 
-#[test]
-fn texts_are_written_as_they_were_read(rt: HostRuntime) {
-    for text in [
-        SMALLEST,
-        TORN,
-        WIDENED_TORN,
-        WIDE_TORN,
-        SHOWN,
-        WIDENED_SHOWN,
-    ] {
-        assert!(rt; is_written_as(rt.alloc(), text, text), "{text}");
+/// The text with this name.
+fn text_of(name: &str) -> &'static str {
+    let names =
+        "smallest|torn|widened-torn|wide-torn|shown|widened-shown|spaced|older|twice|escaped|four";
+    match place(names, name) {
+        Some(0) => SMALLEST,
+        Some(1) => TORN,
+        Some(2) => WIDENED_TORN,
+        Some(3) => WIDE_TORN,
+        Some(4) => SHOWN,
+        Some(5) => WIDENED_SHOWN,
+        Some(6) => SPACED,
+        Some(7) => OLDER,
+        Some(8) => TWICE,
+        Some(9) => ESCAPED,
+        Some(_) => FOUR,
+        None => "",
     }
-    for text in [SPACED, OLDER, TWICE, ESCAPED] {
-        assert!(rt; is_written_as(rt.alloc(), text, SMALLEST), "{text}");
+}
+
+/// Whether the image is written as this text.
+fn is_written(alloc: Global, image: &Image, text: &str) -> bool {
+    match write_image(alloc, image) {
+        Ok(written) => written.as_slice() == text.as_bytes(),
+        Err(_) => false,
     }
 }
 
-/// Whether the text, widened, is the other text.
-fn is_widened(alloc: Global, text: &str, width: u64, wider: &str) -> bool {
-    is_text(widened(alloc, text.as_bytes(), width), wider)
+/// Whether the image, widened, is this text. Without one, widening it is refused.
+fn is_widened(alloc: Global, image: &Image, width: u64, text: &str) -> bool {
+    match widen(alloc, image, width) {
+        Ok(wider) => is_written(alloc, &wider, text),
+        Err(refusal) => text.is_empty() && refusal == Refusal::BadWidth,
+    }
 }
 
-/// Whether widening to this width is refused.
-fn is_too_wide(alloc: Global, text: &str, width: u64) -> bool {
-    widened(alloc, text.as_bytes(), width).err() == Some(Refusal::BadWidth)
+/// Whether two starts are the same in all fields.
+fn is_same(start: &Start, other: &Start) -> bool {
+    start.procs == other.procs
+        && start.cap == other.cap
+        && start.phases.as_slice() == other.phases.as_slice()
+        && start.ahead.as_slice() == other.ahead.as_slice()
+        && start.shown.as_slice() == other.shown.as_slice()
+        && start.pending == other.pending
+        && start.closed == other.closed
+        && start.ruined == other.ruined
 }
 
-#[test]
-fn wider_images(rt: HostRuntime) {
-    let alloc = rt.alloc();
-    assert!(rt; is_widened(alloc, TORN, 1, TORN) && is_widened(alloc, TORN, 2, WIDENED_TORN));
-    assert!(rt; is_widened(alloc, SHOWN, 3, WIDENED_SHOWN));
-    assert!(rt; is_widened(alloc, WIDE_TORN, 3, WIDE_TORN) && is_too_wide(alloc, WIDE_TORN, 2));
-    assert!(rt; is_too_wide(alloc, TORN, 0) && is_too_wide(alloc, TORN, 9));
+/// Whether the start of the image is the one in the text, and a judge can start from it.
+fn starts_as(alloc: Global, image: &Image, text: &str) -> bool {
+    let Ok(wanted) = judges::start_of(alloc, text) else {
+        return false;
+    };
+    match start_of(alloc, image) {
+        Ok(start) => is_same(&start, &wanted) && Judge::from_start(alloc, &start).is_ok(),
+        Err(_) => false,
+    }
+}
+
+/// Whether the rules' functions give the sizes, the data words, 0 past the end, and the process inside, if there is one.
+fn is_seen(image: &Image) -> bool {
+    let one = Layout {
+        procs: 1,
+        cap: 1,
+        width: 1,
+    };
+    let words = image.cells.as_slice();
+    let nobody: [Own; 0] = [];
+    layout(image) == one
+        && word(words, 7) == 5
+        && word(words, 15) == 0
+        && find_in(image.lock.as_slice()) == Some(0)
+        && find_in(&nobody) == None
+}
+
+/// Whether the image is as the text asks.
+fn is_so(alloc: Global, image: &Image, asked: &str) -> bool {
+    let phrase = Phrase::read(asked);
+    match place("written|widened|start|seen", phrase.word) {
+        Some(0) => is_written(alloc, image, text_of(phrase.rest)),
+        Some(1) => is_widened(alloc, image, phrase.number(0), text_of(phrase.rest)),
+        Some(2) => starts_as(alloc, image, phrase.rest),
+        Some(_) => is_seen(image),
+        None => false,
+    }
+}
+
+/// A row of a text, by its name, and what its image is: written as this text, widened to this width and written, without a
+/// text refused, or with this start.
+pub fn holds(alloc: Global, row: &str) -> bool {
+    let mut rest = row;
+    match read_image(alloc, text_of(cut(&mut rest, ": ")).as_bytes()) {
+        Ok(image) => is_so(alloc, &image, rest),
+        Err(_) => false,
+    }
+}
+
+pub const TEXTS: &str = "\
+images: texts are written as they were read
+smallest: written smallest
+torn: written torn
+widened-torn: written widened-torn
+wide-torn: written wide-torn
+shown: written shown
+widened-shown: written widened-shown
+spaced: written smallest
+older: written smallest
+twice: written smallest
+escaped: written smallest";
+
+pub const WIDER: &str = "\
+images: wider images
+torn: widened 1 torn
+torn: widened 2 widened-torn
+shown: widened 3 widened-shown
+wide-torn: widened 3 wide-torn
+wide-torn: widened 2
+torn: widened 0
+torn: widened 9";
+
+/// The starts of images, who is ahead in them, and the functions that the rules use.
+pub const STARTS: &str = "\
+images: starts
+torn: start sizes 1 2; dead-in; pending 0 1 77
+smallest: start sizes 1 1; dead-in
+shown: start sizes 1 1; dead-in; shown 0 1 77
+four: start sizes 4 1; door 1 2; ready 2; ready; out; closed; ruined
+shown: seen";
+
+/// The rule that a text breaks. 98: out of memory.
+fn rule_of(alloc: Global, text: &[u8]) -> Option<u64> {
+    match read_image(alloc, text) {
+        Ok(_) => None,
+        Err(Refusal::BadImage { rule }) => Some(rule),
+        Err(_) => Some(98),
+    }
+}
+
+/// A row of a rule, and the text that breaks it, after this head. Rule 0: the text breaks none.
+pub fn breaks_rule(alloc: Global, head: &str, row: &str) -> bool {
+    let mut members = row;
+    let rule = cut(&mut members, " ").parse::<u64>();
+    match joined(alloc, head, members) {
+        Ok(text) => rule.is_ok() && rule_of(alloc, &text).unwrap_or(0) == rule.unwrap_or(99),
+        Err(_) => false,
+    }
+}
+
+fn joined(alloc: Global, head: &str, members: &str) -> Result<Vec<u8>, Refusal> {
+    let mut text = Vec::from_slice(alloc, head.as_bytes())?;
+    text.extend_from_slice(members.as_bytes())?;
+    Ok(text)
 }
 
 /// Broken forms, broken locks and broken mailboxes: a line for each, after the rule that it breaks.
-const BROKEN: &str = r#"1 []
+pub const BROKEN: &str = r#"texts: broken texts
+1 []
 1 {"cap":-1,"data":[0,0,0,0,0,0,0,0,0,0,0,0,0,0,0],"limit":10,"lock":[[0,1,1]],"version":2,"width":1}
 2 {"cap":1,"data":[0,0,0,0,0,0,0,0,0,0,0,0,0,0,0],"limit":10,"lock":[[0,1,1]],"version":7,"width":1}
 3 {"cap":1,"data":[0,0,0,0,0,0,0,0,0,0,0,0,0,0,0],"limit":10,"lock":[],"version":2,"width":1}
@@ -135,82 +224,14 @@ const BROKEN: &str = r#"1 []
 9 {"cap":1,"data":[0,0,0,1,0,0,0,0,0,0,0,0,0,0,0],"limit":10,"lock":[[0,0,0]],"version":2,"width":1}
 9 {"cap":1,"data":[0,0,0,1,0,1,0,0,0,0,0,0,0,0,0],"limit":10,"lock":[[0,0,0]],"version":2,"width":1}"#;
 
-/// Rows of texts: a rule, and the text that breaks it, after this head. Rule 0: the text breaks none.
-#[derive(Drop)]
-struct OnTexts<'a> {
-    head: &'a str,
-}
-
-impl Table for OnTexts<'_> {
-    fn holds(&self, alloc: Global, row: &str) -> bool {
-        breaks_rule(alloc, self.head, row)
-    }
-}
-
-fn breaks_rule(alloc: Global, head: &str, line: &str) -> bool {
-    let mut members = line;
-    let rule = cut(&mut members, " ").parse::<u64>();
-    match joined(alloc, head, members) {
-        Ok(text) => rule.is_ok() && rule_of(alloc, &text).unwrap_or(0) == rule.unwrap_or(99),
-        Err(_) => false,
-    }
-}
-
-fn joined(alloc: Global, head: &str, members: &str) -> Result<Vec<u8>, Refusal> {
-    let mut text = Vec::from_slice(alloc, head.as_bytes())?;
-    text.extend_from_slice(members.as_bytes())?;
-    Ok(text)
-}
-
-#[test]
-fn broken_texts(rt: HostRuntime) {
-    all_hold(&rt, rt.alloc(), &OnTexts { head: "" }, BROKEN);
-}
-
-/// Writes the image of *smallest* with this number of data words.
-fn put_data(text: &mut Vec<u8>, count: u64) -> Result<(), AllocError> {
-    text.extend_from_slice(b"{\"cap\":1,\"data\":[0")?;
-    for _ in 1..count {
-        text.extend_from_slice(b",0")?;
-    }
-    text.extend_from_slice(b"],\"limit\":10,\"lock\":[[0,1,1]],\"version\":2,\"width\":1}\n")
-}
-
-/// The rule that it breaks. None: it breaks none, or it can't be written.
-fn rule_of_data(alloc: Global, count: u64) -> Option<u64> {
-    let mut text = Vec::new(alloc);
-    match put_data(&mut text, count) {
-        Ok(()) => rule_of(alloc, &text),
-        Err(_) => None,
-    }
-}
-
-/// The first prefix of the text that does not break rule 1. The prefix without the last byte, the line feed, breaks none.
-fn first_read_beginning(alloc: Global, text: &[u8]) -> Option<u64> {
-    for end in 0..text.len() {
-        let rule = if end + 1 == text.len() { None } else { Some(1) };
-        if rule_of(alloc, &text[..end]) != rule {
-            return Some(end as u64);
-        }
-    }
-    None
-}
-
-#[test]
-fn beginnings(rt: HostRuntime) {
-    let alloc = rt.alloc();
-    no_line(&rt, first_read_beginning(alloc, SMALLEST.as_bytes()));
-    assert!(rt; rule_of(alloc, &[b'['; 1000]) == Some(1));
-    assert!(rt; rule_of_data(alloc, 200_000) == Some(4));
-}
-
 /// A capacity, data words and a limit that break no rule.
-const HEAD: &str = "{\"cap\":1,\"data\":[0,0,0,0,0,0,0,0,0,0,0,0,0,0,0],\"limit\":10,";
+pub const HEAD: &str = "{\"cap\":1,\"data\":[0,0,0,0,0,0,0,0,0,0,0,0,0,0,0],\"limit\":10,";
 
 /// The other members, and the rule that each line breaks. 0: none. The width is a member of version 2 alone. A number is
 /// whole, without sign, point or exponent, and fits in 64 bits. A process has three lock words. No member is missing, and
 /// none is unknown.
-const MEMBERS: &str = r#"2 "lock":[[0,1,1]],"version":2}
+pub const MEMBERS: &str = r#"members: members
+2 "lock":[[0,1,1]],"version":2}
 2 "lock":[[0,1,1]],"version":1,"width":1}
 2 "lock":[[0,1,1]],"version":0}
 0 "lock":[[0,1,1]],"version":1}
@@ -237,10 +258,34 @@ const MEMBERS: &str = r#"2 "lock":[[0,1,1]],"version":2}
 1 "lock":[[0,1,1]],"version":2,"width":1,"\ud800":1}
 1 "lock":[[0,1,1]],"version":2,"width":1} 1"#;
 
-#[test]
-fn members(rt: HostRuntime) {
-    all_hold(&rt, rt.alloc(), &OnTexts { head: HEAD }, MEMBERS);
-    assert!(rt; rule_of(rt.alloc(), b"{\"cap\xff\":1}") == Some(1));
+/// Writes the image of *smallest* with this number of data words.
+fn put_data(text: &mut Vec<u8>, count: u64) -> Result<(), AllocError> {
+    text.extend_from_slice(b"{\"cap\":1,\"data\":[0")?;
+    for _ in 1..count {
+        text.extend_from_slice(b",0")?;
+    }
+    text.extend_from_slice(b"],\"limit\":10,\"lock\":[[0,1,1]],\"version\":2,\"width\":1}\n")
+}
+
+/// Whether each prefix of the text breaks rule 1, but the one without the last byte, the line feed, which breaks none.
+fn are_beginnings(alloc: Global, text: &[u8]) -> bool {
+    for end in 0..text.len() {
+        let rule = if end + 1 == text.len() { None } else { Some(1) };
+        if rule_of(alloc, &text[..end]) != rule {
+            return false;
+        }
+    }
+    true
+}
+
+/// Beginnings, a text of 1,000 bytes, one with 200,000 data words, and one that is not UTF-8.
+pub fn beginnings(alloc: Global) -> bool {
+    let mut text = Vec::new(alloc);
+    put_data(&mut text, 200_000).is_ok()
+        && rule_of(alloc, &text) == Some(4)
+        && rule_of(alloc, &[b'['; 1000]) == Some(1)
+        && rule_of(alloc, b"{\"cap\xff\":1}") == Some(1)
+        && are_beginnings(alloc, SMALLEST.as_bytes())
 }
 
 /// An image of one process inside, with the data words of width 1.
@@ -272,117 +317,22 @@ fn breaks(alloc: Global, image: &Image, rule: Option<u64>) -> bool {
     first_rule(image) == rule && widen(alloc, image, 9).err() == Some(refused)
 }
 
-/// Whether an image of this version and width breaks this rule.
-fn is_rule(alloc: Global, version: u64, width: u64, rule: Option<u64>) -> bool {
-    match by_hand(alloc, version, width) {
+/// A row of a version and a width, and the rule that such an image breaks, if it breaks one.
+pub fn is_rule(alloc: Global, row: &str) -> bool {
+    let asked = Phrase::read(row);
+    let rule = asked.numbers(2).first().copied();
+    match by_hand(alloc, asked.number(0), asked.number(1)) {
         Ok(image) => breaks(alloc, &image, rule),
         Err(_) => false,
     }
 }
 
-#[test]
-fn images_made_by_hand(rt: HostRuntime) {
-    let alloc = rt.alloc();
-    assert!(rt; is_rule(alloc, 1, 1, None) && is_rule(alloc, 2, 1, None));
-    assert!(rt; is_rule(alloc, 1, 2, Some(2)) && is_rule(alloc, 1, 9, Some(2)));
-    assert!(rt; is_rule(alloc, 3, 1, Some(2)));
-    assert!(rt; is_rule(alloc, 2, 9, Some(3)) && is_rule(alloc, 2, 0, Some(3)));
-}
-
-/// The start of the image in a text.
-fn start_in(alloc: Global, text: &str) -> Result<Start, Refusal> {
-    let image = read_image(alloc, text.as_bytes())?;
-    start_of(alloc, &image)
-}
-
-/// Whether a judge can start from it.
-fn is_taken(alloc: Global, start: &Start) -> bool {
-    Judge::from_start(alloc, start).is_ok()
-}
-
-/// Whether it is the start of one process that crashed inside, with this number of messages shown and this one pending.
-fn is_start(start: &Start, shown: usize, pending: Option<Message>) -> bool {
-    start.procs == 1
-        && start.phases.as_slice() == [Phase::DeadIn].as_slice()
-        && start.shown.as_slice().len() == shown
-        && start.pending == pending
-        && !start.closed
-        && !start.ruined
-}
-
-/// Whether the text's image has that start, and a judge can start from it.
-fn starts_with(alloc: Global, text: &str, shown: usize, pending: Option<Message>) -> bool {
-    match start_in(alloc, text) {
-        Ok(start) => is_start(&start, shown, pending) && is_taken(alloc, &start),
-        Err(_) => false,
-    }
-}
-
-#[test]
-fn starts(rt: HostRuntime) {
-    let seventy_seven = Phrase::read("message 0 1 77").message();
-    assert!(rt; seventy_seven.is_some());
-    assert!(rt; starts_with(rt.alloc(), TORN, 0, seventy_seven));
-    assert!(rt;
-        starts_with(rt.alloc(), SMALLEST, 0, None) && starts_with(rt.alloc(), SHOWN, 1, None)
-    );
-}
-
-/// Whether exactly these processes are ahead of process `p`.
-fn are_ahead(start: &Start, p: usize, names: &[u64]) -> bool {
-    match start.ahead.as_slice().get(p) {
-        Some(set) => set.as_slice() == names,
-        None => false,
-    }
-}
-
-/// Four processes: one in the doorway, two ready and one out. The mailbox is closed and the lock is ruined.
-const FOUR: &str =
-    "{\"cap\":1,\"data\":[1,1,0,0,0,0,0,0,0,0,0,0,0,0,0,0,0,0],\"limit\":10,\"lock\":[[1,0,0],[0,5,0],[1,3,0],[0,0,1]],\"version\":2,\"width\":1}";
-
-fn is_start_of_four(start: &Start) -> bool {
-    let phases = [Phase::Door, Phase::Ready, Phase::Ready, Phase::Out];
-    start.phases.as_slice() == phases.as_slice()
-        && start.ahead.as_slice().len() == 4
-        && are_ahead(start, 0, &[1, 2])
-        && are_ahead(start, 1, &[2])
-        && are_ahead(start, 2, &[])
-        && are_ahead(start, 3, &[])
-        && start.closed
-        && start.ruined
-}
-
-#[test]
-fn who_is_ahead_in_a_start(rt: HostRuntime) {
-    let is_so = match start_in(rt.alloc(), FOUR) {
-        Ok(start) => is_start_of_four(&start) && is_taken(rt.alloc(), &start),
-        Err(_) => false,
-    };
-    assert!(rt; is_so);
-}
-
-/// Whether the rules' functions give the sizes, the data words, 0 past the end, and the process inside.
-fn is_seen(image: &Image) -> bool {
-    let one = Layout {
-        procs: 1,
-        cap: 1,
-        width: 1,
-    };
-    let words = image.cells.as_slice();
-    layout(image) == one
-        && word(words, 7) == 5
-        && word(words, 15) == 0
-        && find_in(image.lock.as_slice()) == Some(0)
-}
-
-/// The functions that the rules use.
-#[test]
-fn what_the_rules_look_at(rt: HostRuntime) {
-    let is_so = match read_image(rt.alloc(), SHOWN.as_bytes()) {
-        Ok(image) => is_seen(&image),
-        Err(_) => false,
-    };
-    assert!(rt; is_so);
-    let nobody: [Own; 0] = [];
-    assert!(rt; find_in(&nobody) == None);
-}
+pub const BY_HAND: &str = "\
+versions: images made by hand
+version 1 1
+version 2 1
+version 1 2 2
+version 1 9 2
+version 3 1 2
+version 2 9 3
+version 2 0 3";

@@ -1,9 +1,9 @@
 //! Lists of deeds for a judge, and starts. A deed that is refused has its fault after it, as in `enter 1 overtaken 1 0`.
 
-use super::phrase::{Phrase, Table, all_hold, is_refusal, place};
+use super::phrase::{Phrase, is_refusal, place};
 use judge::{Ahead, Judge, Messages, Phases, Start};
 use redomail::Message;
-use rmecore::{Fault, Phase, Refusal};
+use rmecore::{Fault, Phase};
 use std::alloc::{AllocError, Global};
 use test_support::text::cut;
 
@@ -51,26 +51,16 @@ fn are_judged(judge: &mut Judge, deeds: &str) -> bool {
     true
 }
 
-/// Rows on new judges. A row has the number of processes and the capacity, and then deeds, or the refusal of the sizes, as
-/// `refused 8`. A line that begins with `#` is a comment.
-#[derive(Drop)]
-struct OnJudges;
-
-impl Table for OnJudges {
-    fn holds(&self, alloc: Global, row: &str) -> bool {
-        let mut rest = row;
-        let sizes = Phrase::read(cut(&mut rest, ": "));
-        if sizes.word == "#" {
-            return true;
-        }
-        match Judge::new(alloc, sizes.number(0), sizes.number(1)) {
-            Ok(mut judge) => are_judged(&mut judge, rest),
-            Err(refusal) => is_refusal(refusal, rest),
-        }
+/// A row on a new judge: the number of processes and the capacity, and then deeds, or the refusal of the sizes, as `refused 8`.
+pub fn holds(alloc: Global, sizes: &Phrase<'_>, rest: &str) -> bool {
+    match Judge::new(alloc, sizes.number(0), sizes.number(1)) {
+        Ok(mut judge) => are_judged(&mut judge, rest),
+        Err(refusal) => is_refusal(refusal, rest),
     }
 }
 
-const LISTS: &str = "\
+pub const LISTS: &str = "\
+judges: worked lists
 # 0 is ready before 1 begins, so 1 can't enter first
 sizes 2 2: begin 0; ready 0; begin 1; ready 1; enter 1 overtaken 1 0
 sizes 2 2: begin 0; ready 0; begin 1; ready 1; enter 0
@@ -91,14 +81,10 @@ sizes 1 2: begin 0; ready 0; enter 0; commit 0 1 7 8; ruin 0; leave 0
 sizes 1 2: begin 0; ready 0; enter 0; commit 0 1 7 8; show 0 0 1 7 mail-order
 sizes 1 2: begin 0; ready 0; enter 0; commit 0 1 7; crash 0; reenter 0; show 0 0 1 7; close 0; leave 0";
 
-#[test]
-fn worked_lists(rt: HostRuntime) {
-    all_hold(&rt, rt.alloc(), &OnJudges, LISTS);
-}
-
 /// Each fault, for the first and for the last process. A process that does not exist has no deed, not even a crash. If two
 /// processes are ahead, the lesser is named.
-const FAULTS: &str = "\
+pub const FAULTS: &str = "\
+judges: each fault
 sizes 64 2: ready 0 out-of-place
 sizes 64 2: ready 63 out-of-place
 sizes 64 2: begin 0; ready 0; begin 63; ready 63; enter 0; leave 0; begin 0; ready 0; enter 63; enter 0 two-inside
@@ -116,23 +102,14 @@ sizes 64 2: begin 63; ready 63; enter 63; close 63; commit 63 1 5 after-close
 sizes 64 2: crash 64 out-of-place
 sizes 64 2: begin 40; ready 40; begin 9; ready 9; begin 63; ready 63; enter 63 overtaken 63 9";
 
-#[test]
-fn each_fault(rt: HostRuntime) {
-    all_hold(&rt, rt.alloc(), &OnJudges, FAULTS);
-}
-
-const LIMITS: &str = "\
+pub const LIMITS: &str = "\
+judges: limits
 sizes 0 0: refused 1
 sizes 65 1: refused 1
 sizes 64 0: refused 8
 sizes 1 65537: refused 8
 sizes 64 65536: begin 0
 sizes 1 1: begin 0";
-
-#[test]
-fn limits(rt: HostRuntime) {
-    all_hold(&rt, rt.alloc(), &OnJudges, LIMITS);
-}
 
 /// A start, read from a text. `sizes 3 2` comes first. Then a line for each process has its phase and the processes ahead of
 /// it, as in `ready 0 1`. `lone out` is a phase without a set, `set 1` a set without a phase. `shown` and `pending` have a
@@ -160,19 +137,6 @@ fn phase_of(name: &str) -> Option<Phase> {
 }
 
 impl Parts {
-    fn new(alloc: Global) -> Parts {
-        Parts {
-            procs: 0,
-            cap: 0,
-            phases: Vec::new(alloc),
-            ahead: Vec::new(alloc),
-            shown: Vec::new(alloc),
-            pending: None,
-            closed: false,
-            ruined: false,
-        }
-    }
-
     fn add_phase(&mut self, name: &str) -> Result<(), AllocError> {
         if let Some(phase) = phase_of(name) {
             self.phases.push(phase)?;
@@ -188,39 +152,28 @@ impl Parts {
         }
     }
 
-    fn add_message(&mut self, phrase: &Phrase<'_>) -> Result<(), AllocError> {
-        if let Some(message) = phrase.message() {
-            self.shown.push(message)?;
-        }
-        Ok(())
-    }
-
-    /// Takes a line that belongs to no process.
-    fn set(&mut self, at: u64, phrase: &Phrase<'_>) {
-        match at {
-            0 => {
+    /// Adds what a line says.
+    fn add(&mut self, alloc: Global, phrase: &Phrase<'_>) -> Result<(), AllocError> {
+        match place("sizes|pending|closed|ruined|shown|lone", phrase.word) {
+            Some(0) => {
                 self.procs = phrase.number(0);
                 self.cap = phrase.number(1);
             }
-            1 => self.pending = phrase.message(),
-            2 => self.closed = true,
-            _ => self.ruined = true,
-        }
-    }
-
-    fn add(&mut self, alloc: Global, phrase: &Phrase<'_>) -> Result<(), AllocError> {
-        if let Some(at) = place("sizes|pending|closed|ruined", phrase.word) {
-            self.set(at, phrase);
-            return Ok(());
-        }
-        match place("shown|lone", phrase.word) {
-            Some(0) => self.add_message(phrase),
-            Some(_) => self.add_phase(phrase.rest),
+            Some(1) => self.pending = phrase.message(),
+            Some(2) => self.closed = true,
+            Some(3) => self.ruined = true,
+            Some(4) => {
+                if let Some(message) = phrase.message() {
+                    self.shown.push(message)?;
+                }
+            }
+            Some(_) => return self.add_phase(phrase.rest),
             None => {
                 self.add_phase(phrase.word)?;
-                self.add_set(alloc, phrase.numbers(0))
+                return self.add_set(alloc, phrase.numbers(0));
             }
         }
+        Ok(())
     }
 
     fn add_all(&mut self, alloc: Global, text: &str) -> Result<(), AllocError> {
@@ -233,52 +186,46 @@ impl Parts {
         }
         Ok(())
     }
-
-    fn start(self) -> Start {
-        Start {
-            procs: self.procs,
-            cap: self.cap,
-            phases: Phases::new(self.phases),
-            ahead: Ahead::new(self.ahead),
-            shown: Messages::new(self.shown),
-            pending: self.pending,
-            closed: self.closed,
-            ruined: self.ruined,
-        }
-    }
 }
 
-fn start_of(alloc: Global, text: &str) -> Result<Start, AllocError> {
-    let mut parts = Parts::new(alloc);
+/// The start in a text.
+pub fn start_of(alloc: Global, text: &str) -> Result<Start, AllocError> {
+    let mut parts = Parts {
+        procs: 0,
+        cap: 0,
+        phases: Vec::new(alloc),
+        ahead: Vec::new(alloc),
+        shown: Vec::new(alloc),
+        pending: None,
+        closed: false,
+        ruined: false,
+    };
     parts.add_all(alloc, text)?;
-    Ok(parts.start())
+    Ok(Start {
+        procs: parts.procs,
+        cap: parts.cap,
+        phases: Phases::new(parts.phases),
+        ahead: Ahead::new(parts.ahead),
+        shown: Messages::new(parts.shown),
+        pending: parts.pending,
+        closed: parts.closed,
+        ruined: parts.ruined,
+    })
 }
 
-/// A judge from the start in a text.
-fn judge_of(alloc: Global, text: &str) -> Result<Judge, Refusal> {
-    let start = start_of(alloc, text)?;
-    Judge::from_start(alloc, &start)
-}
-
-/// Rows on judges from starts. A row has a start, and then deeds, or the refusal of the start.
-#[derive(Drop)]
-struct OnStarts;
-
-impl Table for OnStarts {
-    fn holds(&self, alloc: Global, row: &str) -> bool {
-        let mut rest = row;
-        let start = cut(&mut rest, ": ");
-        if start.starts_with("#") {
-            return true;
-        }
-        match judge_of(alloc, start) {
-            Ok(mut judge) => are_judged(&mut judge, rest),
-            Err(refusal) => is_refusal(refusal, rest),
-        }
+/// A row on a judge from a start: the start, and then deeds, or the refusal of the start.
+pub fn holds_from(alloc: Global, start: &str, rest: &str) -> bool {
+    let Ok(start) = start_of(alloc, start) else {
+        return false;
+    };
+    match Judge::from_start(alloc, &start) {
+        Ok(mut judge) => are_judged(&mut judge, rest),
+        Err(refusal) => is_refusal(refusal, rest),
     }
 }
 
-const STARTS: &str = "\
+pub const STARTS: &str = "\
+starts: refusals
 # the refusals in order
 sizes 0 0; inside: refused 1
 sizes 65 2; inside: refused 1
@@ -299,12 +246,8 @@ sizes 2 2; door 1; ready 1 2: refused 11
 sizes 2 2; door 1; ready 1 64: refused 11
 sizes 2 2; door 1; ready 1 18446744073709551615: refused 11";
 
-#[test]
-fn starts(rt: HostRuntime) {
-    all_hold(&rt, rt.alloc(), &OnStarts, STARTS);
-}
-
-const MESSAGES_OF_STARTS: &str = "\
+pub const MESSAGES_OF_STARTS: &str = "\
+starts: messages
 sizes 1 2; out; shown 0 1 7; shown 0 2 7
 # a number is missing, or occurs twice
 sizes 1 2; out; shown 0 2 7: refused 11
@@ -323,17 +266,8 @@ sizes 1 2; out; shown 0 1 7; pending 0 2 7
 # pending in a closed mailbox
 sizes 1 2; out; shown 0 1 7; pending 0 2 7; closed: refused 11";
 
-#[test]
-fn messages_of_starts(rt: HostRuntime) {
-    all_hold(&rt, rt.alloc(), &OnStarts, MESSAGES_OF_STARTS);
-}
-
 /// From a start with 0 dead in and its message pending, and 1 ready and ahead of 2. At the end two messages are shown, and
 /// the capacity is two.
-const GOING_ON: &str = "\
+pub const GOING_ON: &str = "\
+starts: going on
 sizes 3 2; dead-in 1 1; ready; ready 1; shown 1 1 5; pending 0 1 7: enter 2 not-reentered; reenter 0; leave 0 mail-order; show 0 1 1 7; leave 0; enter 2 overtaken 2 1; enter 1; leave 1; enter 2; commit 2 1 9 mail-order";
-
-#[test]
-fn going_on(rt: HostRuntime) {
-    all_hold(&rt, rt.alloc(), &OnStarts, GOING_ON);
-}

@@ -1,7 +1,7 @@
 //! The worked rows of the lock in simulation: cores, mailboxes, judges, whole worlds with their images, and crash plans.
-//! Each test names public functions of `rmecore`, `redomail`, `judge`, `rmeworld` and `crash_plans`.
+//! The rows name public functions of `rmecore`, `redomail`, `judge`, `rmeworld` and `crash_plans`.
 //!
-//! Main items: `cores`, `worlds`, `mailboxes`.
+//! Main items: `tables`, `cores`, `worlds`.
 #![tactic(auto)]
 
 #[cfg(test)]
@@ -28,6 +28,8 @@ mod played;
 mod redo;
 #[cfg(test)]
 mod refused_memory;
+#[cfg(test)]
+mod tables;
 #[cfg(test)]
 mod torn;
 #[cfg(test)]

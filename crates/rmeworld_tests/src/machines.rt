@@ -1,7 +1,7 @@
 //! The state machine of one process, bodies, and the numbers and texts of refusals.
 
 use rmecore::{Access, Body, CoreCall, Kind, LockProcess, Outer, Refusal, Word};
-use std::alloc::{AllocError, Global};
+use std::alloc::Global;
 
 /// Rereads three zeros, up to the doorway.
 fn rereads(process: &mut LockProcess) -> bool {
@@ -30,17 +30,16 @@ fn takes_five(process: &mut LockProcess) -> bool {
 }
 
 /// A process that a test feeds with values.
-#[test]
-fn knows_no_word(rt: HostRuntime) {
+pub fn knows_no_word() -> bool {
     let mut process = LockProcess::new(2, 10, 1);
-    assert!(rt; process.next().is_none());
-    assert!(rt; process.refusal(CoreCall::Unlock) == Some(Refusal::NotOwner));
-    assert!(rt; process.start(CoreCall::Lock).is_ok());
-    assert!(rt; process.call() == Some(CoreCall::Lock));
-    assert!(rt; rereads(&mut process) && takes_five(&mut process));
+    let is_led = process.next().is_none()
+        && process.refusal(CoreCall::Unlock) == Some(Refusal::NotOwner)
+        && process.start(CoreCall::Lock).is_ok()
+        && process.call() == Some(CoreCall::Lock)
+        && rereads(&mut process)
+        && takes_five(&mut process);
     process.crash();
-    assert!(rt; process.next().is_none());
-    assert!(rt; process.refusal(CoreCall::Lock).is_none());
+    is_led && process.next().is_none() && process.refusal(CoreCall::Lock).is_none()
 }
 
 const WORDS: [u64; 9] = [7, 8, 9, 10, 11, 12, 13, 14, 15];
@@ -52,29 +51,33 @@ fn is_body(body: &Body, width: u64) -> bool {
         && body.word(width) == Err(Refusal::BadIndex)
 }
 
-#[test]
-fn bodies(rt: HostRuntime) {
-    assert!(rt; Body::new(&[]) == Err(Refusal::BadWidth));
-    assert!(rt; Body::new(&WORDS) == Err(Refusal::BadWidth));
+pub fn bodies() -> bool {
     for width in 1..9u64 {
         let is_so = match Body::new(&WORDS[..width as usize]) {
             Ok(body) => is_body(&body, width),
             Err(_) => false,
         };
-        assert!(rt; is_so, "{width} words");
+        if !is_so {
+            return false;
+        }
     }
     let two = Body::new(&[7, 8]);
-    assert!(rt; two.is_ok() && Body::new(&[7, 8]) == two && Body::new(&[7]) != two);
-    assert!(rt; Body::new(&[7, 0]) != Body::new(&[7]));
+    Body::new(&[]) == Err(Refusal::BadWidth)
+        && Body::new(&WORDS) == Err(Refusal::BadWidth)
+        && two.is_ok()
+        && Body::new(&[7, 8]) == two
+        && Body::new(&[7]) != two
+        && Body::new(&[7, 0]) != Body::new(&[7])
 }
 
-fn is_shown(alloc: Global, refusal: Refusal, wanted: &str) -> Result<bool, AllocError> {
-    let text = format!(in alloc; "{refusal}")?;
-    Ok(text.as_str() == wanted)
+fn is_shown(alloc: Global, refusal: Refusal, wanted: &str) -> bool {
+    match format!(in alloc; "{refusal}") {
+        Ok(text) => text.as_str() == wanted,
+        Err(_) => false,
+    }
 }
 
-#[test]
-fn numbers_of_refusals(rt: HostRuntime) {
+pub fn numbers_of_refusals(alloc: Global) -> bool {
     let refusals = [
         Refusal::BadProcs,
         Refusal::BadLimit,
@@ -95,9 +98,10 @@ fn numbers_of_refusals(rt: HostRuntime) {
     let mut number = 0u64;
     for refusal in refusals {
         number = number.saturating_add(1);
-        assert!(rt; refusal.number() == Some(number), "{number}");
+        if refusal.number() != Some(number) {
+            return false;
+        }
     }
-    assert!(rt; Refusal::OutOfMemory.number().is_none());
     let broken = Refusal::BadImage { rule: 2 };
-    assert!(rt; is_shown(rt.alloc(), broken, "the image breaks rule 2") == Ok(true));
+    Refusal::OutOfMemory.number().is_none() && is_shown(alloc, broken, "the image breaks rule 2")
 }

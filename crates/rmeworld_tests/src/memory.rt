@@ -8,11 +8,11 @@ use redomail::{Cells, Job, Layout, Message, Reply, Stop, Task, content, run_task
 use std::alloc::{AllocError, Global};
 use test_support::text::cut;
 
-/// The words, the number of calls of the task, the call at which it stops (0: none), and the number of stops.
+/// The words, the number of calls of the task, the call at which it stops, and the number of stops.
 #[derive(Drop)]
-pub struct Memory {
-    pub words: Vec<u64>,
-    pub layout: Layout,
+struct Memory {
+    words: Vec<u64>,
+    layout: Layout,
     calls: u64,
     stop_at: u64,
     stops: u64,
@@ -20,7 +20,7 @@ pub struct Memory {
 
 impl Memory {
     /// New words, all 0.
-    pub fn new(alloc: Global, layout: Layout, words: usize) -> Result<Memory, AllocError> {
+    fn new(alloc: Global, layout: Layout, words: usize) -> Result<Memory, AllocError> {
         Ok(Memory {
             words: vec![in alloc; 0; words]?,
             layout,
@@ -45,12 +45,7 @@ impl Memory {
     }
 
     /// Runs a process's task that stops at this call. The result has the number of its calls. None: the task is refused.
-    pub fn run(
-        &mut self,
-        sender: u64,
-        task: Task,
-        stop_at: u64,
-    ) -> Option<(Result<Reply, Stop>, u64)> {
+    fn run(&mut self, sender: u64, task: Task, stop_at: u64) -> Option<(Result<Reply, Stop>, u64)> {
         let Ok(job) = Job::new(self.layout, sender, task) else {
             return None;
         };
@@ -60,51 +55,79 @@ impl Memory {
         Some((answer, self.calls))
     }
 
-    /// Whether the task stops at this call.
-    pub fn is_stopped(&mut self, sender: u64, task: Task, at: u64) -> bool {
-        self.run(sender, task, at) == Some((Err(Stop), at))
-    }
-
-    /// Whether the task replies so after this number of calls, if it never stops.
-    pub fn is_answered(&mut self, sender: u64, task: Task, reply: Reply, calls: u64) -> bool {
-        self.run(sender, task, 0) == Some((Ok(reply), calls))
-    }
-
-    /// Runs a line: a task, the number of its calls, and its reply. True: it is so.
-    fn takes(&mut self, text: &str) -> bool {
+    /// Plays a line. True: it is so. `append 0 1 77: stops 8` is a task that stops at its call 8, without a number at the call
+    /// that the row is played with. `append 0 1 77: calls 13 stored` has its number of calls and its reply, and
+    /// `calls 13 14 stored` would stop at call 14. `heads 1 0` are count and armed.
+    fn takes(&mut self, text: &str, stop_at: u64) -> bool {
         let mut rest = text;
         let asked = Phrase::read(cut(&mut rest, ": "));
         let answer = Phrase::read(rest);
-        match (asked.task(), reply_of(answer.rest)) {
-            (Some(task), Some(reply)) => {
-                self.is_answered(asked.number(0), task, reply, answer.number(0))
+        let first = answer.numbers(0).first().copied();
+        let Some(task) = asked.task() else {
+            return asked.word == "heads" && self.words.get(2..4) == Some(asked.numbers(0));
+        };
+        if answer.word == "stops" {
+            let at = first.unwrap_or(stop_at);
+            return self.run(asked.number(0), task, at) == Some((Err(Stop), at));
+        }
+        match (reply_of(answer.rest), first) {
+            (Some(reply), Some(calls)) => {
+                self.run(asked.number(0), task, answer.number(1)) == Some((Ok(reply), calls))
             }
             _ => false,
         }
     }
 
-    /// The number, from 1, of the first line that fails.
-    pub fn first_wrong(&mut self, script: &str) -> Option<u64> {
+    /// Whether each line is so.
+    fn are_right(&mut self, script: &str, stop_at: u64) -> bool {
         let mut rest = script;
-        let mut at = 0u64;
         for _ in 0..script.len() {
             if rest.is_empty() {
                 break;
             }
-            at = at.saturating_add(1);
-            if !self.takes(cut(&mut rest, "; ")) {
-                return Some(at);
+            if !self.takes(cut(&mut rest, "; "), stop_at) {
+                return false;
             }
         }
-        None
+        true
     }
 
-    /// Whether the content of the words is these messages, each with its sender, its number and its value.
-    pub fn shows(&self, alloc: Global, messages: &str) -> bool {
+    /// Whether the content is these messages, each with its sender, its number and its value, and the words are those after
+    /// them, if there are any.
+    fn shows(&self, alloc: Global, messages: &str, words: &str) -> bool {
         match content(alloc, self.layout, &self.words) {
-            Ok(shown) => are_messages(&shown, messages),
+            Ok(shown) => are_messages(&shown, messages) && are_numbers(&self.words, words),
             Err(_) => false,
         }
+    }
+}
+
+/// Whether the numbers are these, if there are any.
+fn are_numbers(numbers: &[u64], wanted: &str) -> bool {
+    let mut rest = wanted;
+    for number in numbers {
+        if cut(&mut rest, " ").parse::<u64>() != Ok(*number) {
+            return wanted.is_empty();
+        }
+    }
+    rest.is_empty()
+}
+
+/// A row on words that are all 0: the sizes and the number of words, and then a script, the messages, and the words in the end.
+pub fn holds(alloc: Global, sizes: &Phrase<'_>, rest: &str, stop_at: u64) -> bool {
+    let layout = Layout {
+        procs: sizes.number(0),
+        cap: sizes.number(1),
+        width: sizes.number(2),
+    };
+    let mut words = rest;
+    let script = cut(&mut words, " | ");
+    let messages = cut(&mut words, " | ");
+    match Memory::new(alloc, layout, sizes.number(3) as usize) {
+        Ok(mut memory) => {
+            memory.are_right(script, stop_at) && memory.shows(alloc, messages, words)
+        }
+        Err(_) => false,
     }
 }
 

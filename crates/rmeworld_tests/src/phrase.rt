@@ -3,8 +3,6 @@
 use redomail::{Deed, Message, Reply, Task};
 use rmecore::{Body, Found, Outer, Refusal};
 use rmeworld::{Answer, Call};
-use std::alloc::Global;
-use std::process::Abort;
 use test_support::text::cut;
 
 /// A phrase. A number that is missing counts as the greatest u64.
@@ -15,53 +13,6 @@ pub struct Phrase<'a> {
     count: usize,
     /// The text after the numbers.
     pub rest: &'a str,
-}
-
-/// Fails the test at the row that fails, and the line in it.
-pub fn no_row(rt: &impl Abort, wrong: Option<(usize, u64)>) {
-    if let Some((row, line)) = wrong {
-        panic!(rt; "row {row}, line {line}")
-    }
-}
-
-/// Fails the test at the line that fails.
-pub fn no_line(rt: &impl Abort, wrong: Option<u64>) {
-    if let Some(line) = wrong {
-        panic!(rt; "line {line}")
-    }
-}
-
-/// Fails the test at the text that fails.
-fn no_text(rt: &impl Abort, wrong: Option<&str>) {
-    if let Some(text) = wrong {
-        panic!(rt; "{text}")
-    }
-}
-
-/// What the rows of a table speak of. A row is a line.
-pub trait Table {
-    /// Whether the row holds.
-    fn holds(&self, alloc: Global, row: &str) -> bool;
-}
-
-/// The first row that does not hold.
-fn first_other<'a, T: Table>(alloc: Global, table: &T, rows: &'a str) -> Option<&'a str> {
-    let mut rest = rows;
-    for _ in 0..rows.len() {
-        if rest.is_empty() {
-            break;
-        }
-        let row = cut(&mut rest, "\n");
-        if !table.holds(alloc, row) {
-            return Some(row);
-        }
-    }
-    None
-}
-
-/// Fails the test at the first row that does not hold.
-pub fn all_hold<T: Table>(rt: &impl Abort, alloc: Global, table: &T, rows: &str) {
-    no_text(rt, first_other(alloc, table, rows));
 }
 
 /// Whether a refusal is the one of the text, as in `refused 11`.
@@ -213,17 +164,7 @@ pub fn found_of(name: &str) -> Option<Found> {
     }
 }
 
-/// The reply with a board word, as in `word 9`.
-fn word_of(name: &str) -> Option<Reply> {
-    let phrase = Phrase::read(name);
-    if phrase.word == "word" {
-        Some(Reply::Word(phrase.number(0)))
-    } else {
-        None
-    }
-}
-
-/// The mailbox's reply with this name.
+/// The mailbox's reply with this name. That with a board word is `word 9`.
 pub fn reply_of(name: &str) -> Option<Reply> {
     let names =
         "stored|already|out-of-order|full|closed|closed-now|already-closed|mended|nothing-to-mend|put|ruined|not-ruined";
@@ -240,7 +181,7 @@ pub fn reply_of(name: &str) -> Option<Reply> {
         Some(9) => Some(Reply::Done),
         Some(10) => Some(Reply::Ruined(true)),
         Some(_) => Some(Reply::Ruined(false)),
-        None => word_of(name),
+        None => Some(Reply::Word(name.strip_prefix("word ")?.parse::<u64>().ok()?)),
     }
 }
 
@@ -254,13 +195,9 @@ pub fn answer_of(name: &str) -> Option<Answer> {
         Some(3) => Some(Answer::NotRecoverable),
         Some(4) => Some(Answer::Unlocked),
         Some(_) => Some(Answer::Withdrawn),
-        None => found_or_replied(name),
-    }
-}
-
-fn found_or_replied(name: &str) -> Option<Answer> {
-    match found_of(name) {
-        Some(found) => Some(Answer::Found(found)),
-        None => Some(Answer::Mail(reply_of(name)?)),
+        None => match found_of(name) {
+            Some(found) => Some(Answer::Found(found)),
+            None => Some(Answer::Mail(reply_of(name)?)),
+        },
     }
 }

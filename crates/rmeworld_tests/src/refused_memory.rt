@@ -2,8 +2,7 @@
 //! back piece by piece until a call meets no refusal. What it then gives is compared whole with what ample memory gives.
 
 use super::phrase::Phrase;
-use super::played::{first_wrong, world_of};
-use super::torn::is_same;
+use super::played::{are_right, is_same, world_of};
 use redomail::Deed;
 use rmecore::Refusal;
 use rmeworld::{Image, Stepped, World, read_image, write_image};
@@ -17,18 +16,8 @@ fn played(rt: &impl Abort, alloc: Global, script: &str) -> World {
     let Ok(mut world) = world_of(alloc, &Phrase::read("sizes 2 10 2 1")) else {
         panic!(rt; "no world")
     };
-    assert!(rt;
-        first_wrong(alloc, &mut world, script).is_none(),
-        "{script}"
-    );
+    assert!(rt; are_right(alloc, &mut world, script, 0), "{script}");
     world
-}
-
-fn image_of(rt: &impl Abort, world: &World) -> Image {
-    let Ok(image) = world.image() else {
-        panic!(rt; "no image")
-    };
-    image
 }
 
 fn scarce(rt: &impl Abort, alloc: Global) -> ScarceMemory {
@@ -107,7 +96,11 @@ fn a_new_world(rt: HostRuntime) {
 /// The image of a world with a message, and a process inside.
 fn written(rt: &impl Abort, alloc: Global) -> Image {
     let script = "lock 0; step 0 11 clean; append 0 1 77; step 0 13 stored";
-    image_of(rt, &played(rt, alloc, script))
+    let world = played(rt, alloc, script);
+    match world.image() {
+        Ok(image) => image,
+        Err(_) => panic!(rt; "no image"),
+    }
 }
 
 #[derive(Drop)]
@@ -121,14 +114,6 @@ impl Work for Writing<'_> {
     fn make(&self, alloc: Global) -> Result<Vec<u8>, Refusal> {
         write_image(alloc, self.image)
     }
-}
-
-#[test]
-fn a_written_image(rt: HostRuntime) {
-    let alloc = rt.alloc();
-    let image = written(&rt, alloc);
-    let text = at_last(&rt, alloc, &Writing { image: &image });
-    assert!(rt; write_image(alloc, &image) == Ok(text));
 }
 
 #[derive(Drop)]
@@ -145,14 +130,12 @@ impl Work for Reading<'_> {
 }
 
 #[test]
-fn a_read_image(rt: HostRuntime) {
+fn a_written_image_and_a_read_one(rt: HostRuntime) {
     let alloc = rt.alloc();
     let image = written(&rt, alloc);
-    let Ok(text) = write_image(alloc, &image) else {
-        panic!(rt; "no text")
-    };
+    let text = at_last(&rt, alloc, &Writing { image: &image });
     let read = at_last(&rt, alloc, &Reading { text: &text });
-    assert!(rt; is_same(&read, &image));
+    assert!(rt; is_same(&read, &image) && write_image(alloc, &image) == Ok(text));
 }
 
 /// A step of process 0, taken once there is memory for it, and how often it was refused. None: it was refused for another

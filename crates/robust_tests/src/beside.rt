@@ -5,11 +5,13 @@ use crate::support::counted::never;
 use crate::support::rows::{call_of, first_wrong_of_two, is_named};
 use crate::support::running::two;
 use crate::support::tested::Tested;
+use crate::support::text::{number, place};
 use crash_plans::{At, CrashPlan, Never};
 use robust::Member;
 use std::alloc::Global;
 use std::process::Abort;
 use std::sync::Wait;
+use test_support::text::cut;
 
 /// What the other member does.
 #[derive(Clone, Copy)]
@@ -26,10 +28,22 @@ enum Act {
     Unlock(u64),
 }
 
+/// The act of these words, as in `lock 5`.
+fn act_of(words: &str) -> Option<Act> {
+    let mut rest = words;
+    match place("enter|read|lock|crash|unlock", cut(&mut rest, " "))? {
+        0 => Some(Act::Enter),
+        1 => Some(Act::Read),
+        2 => Some(Act::Lock(number(&mut rest))),
+        3 => Some(Act::Crash(number(&mut rest))),
+        _ => Some(Act::Unlock(number(&mut rest))),
+    }
+}
+
 /// A plan at whose askings another member acts.
 #[derive(Drop)]
-struct Beside<P> {
-    plan: P,
+struct Beside {
+    plan: At,
     other: Member,
     alloc: Global,
     act: Act,
@@ -53,8 +67,8 @@ fn acts(other: &mut Member, alloc: Global, act: Act, asking: u64) -> bool {
     }
 }
 
-impl<P: CrashPlan> CrashPlan for Beside<P> {
-    ghost askings = { λ b. P.askings b.plan };
+impl CrashPlan for Beside {
+    ghost askings = { λ b. b.plan.askings };
 
     fn falls(&mut self) -> bool {
         self.askings = self.askings.saturating_add(1);
@@ -65,101 +79,84 @@ impl<P: CrashPlan> CrashPlan for Beside<P> {
     }
 }
 
-/// What a call comes to beside the other member, after these rows: the asking at which it was done, and the number of askings.
-fn met_beside<P: CrashPlan + Drop, R: Abort + Wait>(
-    rt: &R,
-    alloc: Global,
-    rows: &str,
-    plan: P,
-    act: Act,
-    words: &str,
-    answer: &str,
-) -> (u64, u64) {
+/// A row of calls before, of the asking at which the plan falls, 0 for none, of what the other member does, and of a call and its
+/// answer. Then there may be the asking at which the other was done, and the number of askings.
+fn is_met<R: Abort + Wait>(rt: &R, alloc: Global, row: &str) -> bool {
+    let mut rest = row;
+    let before = cut(&mut rest, " | ");
+    let falls_at = number(&mut cut(&mut rest, " | "));
+    let (act, call) = (
+        act_of(cut(&mut rest, " | ")),
+        call_of(cut(&mut rest, " | ")),
+    );
+    let (Some(act), Some(call)) = (act, call) else {
+        return false;
+    };
+    let answer = cut(&mut rest, " | ");
     let (mut one, mut other) = two(rt, alloc, 10, 1);
-    assert!(rt; first_wrong_of_two(rt, &mut one, &mut other, &mut never(), rows).is_none());
+    let wrong = first_wrong_of_two(rt, &mut one, &mut other, &mut never(), before);
     let mut plan = Beside {
-        plan,
+        plan: At::new(falls_at),
         other,
         alloc,
         act,
         askings: 0,
         done: 0,
     };
-    let Some(call) = call_of(words) else {
-        panic!(rt; "no call")
-    };
     let reports = one.call(rt, call, &mut plan);
-    assert!(rt; is_named(reports, answer), "not {answer}, after {rows:?}");
-    (plan.done, plan.askings)
+    let counts = (plan.done, plan.askings);
+    wrong.is_none()
+        && is_named(reports, answer)
+        && (rest.is_empty() || (number(&mut rest), number(&mut rest)) == counts)
 }
 
-#[test]
-fn asked_before_each_step_of_an_unlock(rt: HostRuntime) {
-    let (rows, plan) = ("0 lock_within 0: clean", Never::new());
-    let met = met_beside(
-        &rt,
-        rt.alloc(),
-        rows,
-        plan,
-        Act::Enter,
-        "unlock",
-        "unlocked",
-    );
-    assert!(&rt; met == (2, 3));
-}
-
-/// What an append comes to while the other member reads: the asking at which its message is shown, and the number of askings.
-fn shown<P: CrashPlan + Drop, R: Abort + Wait>(
-    rt: &R,
-    alloc: Global,
-    plan: P,
-    answer: &str,
-) -> (u64, u64) {
-    met_beside(
-        rt,
-        alloc,
-        "",
-        plan,
-        Act::Read,
-        "append_within 1 5 0",
-        answer,
-    )
-}
-
-#[test]
-fn asked_before_each_step_of_an_append(rt: HostRuntime) {
-    assert!(&rt; shown(&rt, rt.alloc(), Never::new(), "stored") == (24, 27));
-    assert!(&rt; shown(&rt, rt.alloc(), At::new(24), "crashed") == (24, 24));
-    assert!(&rt; shown(&rt, rt.alloc(), At::new(23), "crashed") == (0, 23));
-}
-
-/// The fifth step loads the other's number, to take the next one; the eighth whether its doorway is open, and the ninth its
+/// A lock's fifth step loads the other's number, to take the next one; the eighth whether its doorway is open, and the ninth its
 /// number again. What is done at a later asking is not found any more.
+const ROWS: &str = "\
+# asked_before_each_step_of_an_unlock
+0 lock_within 0: clean | 0 | enter | unlock | unlocked | 2 3
+# asked before each step of an append: the asking at which its message is shown
+ | 0 | read | append_within 1 5 0 | stored | 24 27
+ | 24 | read | append_within 1 5 0 | crashed | 24 24
+ | 23 | read | append_within 1 5 0 | crashed | 0 23
+# asked before each load of a lock
+ | 0 | lock 1 | lock_within 0 | not-yet
+ | 0 | crash 1 | lock_within 0 | not-yet
+1 lock_within 0: clean | 0 | unlock 1 | lock_within 0 | clean
+ | 0 | lock 2 | lock_within 0 | not-yet
+ | 0 | crash 2 | lock_within 0 | not-yet
+1 lock_within 0: clean | 0 | unlock 2 | lock_within 0 | clean
+ | 0 | lock 3 | lock_within 0 | not-yet
+ | 0 | crash 3 | lock_within 0 | not-yet
+1 lock_within 0: clean | 0 | unlock 3 | lock_within 0 | clean
+ | 0 | lock 4 | lock_within 0 | not-yet
+ | 0 | crash 4 | lock_within 0 | not-yet
+1 lock_within 0: clean | 0 | unlock 4 | lock_within 0 | clean
+ | 0 | lock 5 | lock_within 0 | not-yet
+ | 0 | crash 5 | lock_within 0 | not-yet
+1 lock_within 0: clean | 0 | unlock 5 | lock_within 0 | clean
+ | 0 | lock 6 | lock_within 0 | clean
+ | 0 | crash 6 | lock_within 0 | not-yet
+1 lock_within 0: clean | 0 | unlock 6 | lock_within 0 | clean
+ | 0 | lock 7 | lock_within 0 | clean
+ | 0 | crash 7 | lock_within 0 | not-yet
+1 lock_within 0: clean | 0 | unlock 7 | lock_within 0 | clean
+ | 0 | lock 8 | lock_within 0 | clean
+ | 0 | crash 8 | lock_within 0 | not-yet
+1 lock_within 0: clean | 0 | unlock 8 | lock_within 0 | clean
+ | 0 | lock 9 | lock_within 0 | clean
+ | 0 | crash 9 | lock_within 0 | clean
+1 lock_within 0: clean | 0 | unlock 9 | lock_within 0 | clean
+ | 0 | lock 10 | lock_within 0 | clean
+ | 0 | crash 10 | lock_within 0 | clean
+1 lock_within 0: clean | 0 | unlock 10 | lock_within 0 | not-yet";
+
 #[test]
-fn asked_before_each_load_of_a_lock(rt: HostRuntime) {
-    for at in 1..11 {
-        for (act, rows, answer) in [
-            (Act::Lock(at), "", if at <= 5 { "not-yet" } else { "clean" }),
-            (
-                Act::Crash(at),
-                "",
-                if at <= 8 { "not-yet" } else { "clean" },
-            ),
-            (
-                Act::Unlock(at),
-                "1 lock_within 0: clean",
-                if at <= 9 { "clean" } else { "not-yet" },
-            ),
-        ] {
-            met_beside(
-                &rt,
-                rt.alloc(),
-                rows,
-                Never::new(),
-                act,
-                "lock_within 0",
-                answer,
-            );
-        }
+fn each_row_holds(rt: HostRuntime) {
+    for row in ROWS.split('\n') {
+        assert!(&rt;
+            row.starts_with("# ") || is_met(&rt, rt.alloc(), row),
+            "{row}"
+        );
     }
 }

@@ -6,6 +6,7 @@ use crate::both::{Played, wrong_on_both, wrong_on_either_path};
 use crate::support::counted::{Counted, never, stepwise};
 use crate::support::rows::first_wrong;
 use crate::support::tested::Tested;
+use crate::support::text::number;
 use crash_plans::CrashPlan;
 use redomail::Reply;
 use rmecore::Refusal;
@@ -14,91 +15,105 @@ use std::marker::Brand;
 use std::process::Abort;
 use std::sync::Wait;
 use std::sync::ledger::{Blank, Ledger};
-use std::test::Fail;
+use test_support::text::cut;
 
-/// Calls that are refused, and don't ask the plan. One that is blocked reads four times.
-#[test]
-fn refusals(rt: HostRuntime) {
-    for rows in [
-        "0 lock_within 0: clean - 12; 0 consistent: not-inconsistent - 0; 1 unlock: not-owner - 0",
-        "0 unlock: not-owner - 0; 0 get 4: not-owner - 0; 0 put 4 1: not-owner - 0; \
-         0 lock_within 0: clean - 12; 0 consistent: not-inconsistent - 0; 0 lock: already-in - 0; \
-         0 recover: already-in - 0; 0 close_within 0: already-in - 0; 0 get 4: bad-index - 0; \
-         0 put 4 1: bad-index 11 0; 0 put 3 7: put - 2; 0 get 3: 7 - 2; \
-         1 close_within 3: not-yet 12 13",
-    ] {
-        let left = "anything";
-        let wrong = wrong_on_both(&rt, rt.alloc(), Played { cap: 1, rows, left });
-        assert!(&rt; wrong.is_none(), "{wrong:?}");
+/// Rows of which locks, the room of the mailbox, calls, and what they leave. After `both` the calls are made on both locks, else
+/// on the running lock alone.
+const ROWS: &str = "\
+# refusals: calls that are refused, and don't ask the plan; one that is blocked reads four times
+both 1 | 0 lock_within 0: clean - 12; 0 consistent: not-inconsistent - 0; 1 unlock: not-owner - 0 | anything
+both 1 | 0 unlock: not-owner - 0; 0 get 4: not-owner - 0; 0 put 4 1: not-owner - 0; 0 lock_within 0: clean - 12; 0 consistent: not-inconsistent - 0; 0 lock: already-in - 0; 0 recover: already-in - 0; 0 close_within 0: already-in - 0; 0 get 4: bad-index - 0; 0 put 4 1: bad-index 11 0; 0 put 3 7: put - 2; 0 get 3: 7 - 2; 1 close_within 3: not-yet 12 13 | anything
+# ruined: an unlock that ruins the lock, and the members that lock after it
+both 1 | 0 lock_within 0 @12: crashed 11 12; 0 lock_within 0: owner-died 4 5; 0 unlock: unlocked 3 4; 1 lock_within 0: not-recoverable 13 14; 0 lock_within 0: not-recoverable 13 14 | words 0 0 0 0 0 0 1
+# place_kept: a lock that gives up, and one that waits on and keeps its place
+both 1 | 0 lock_within 0: clean 11 12; 1 lock_within 0: not-yet 9 10; 0 unlock: unlocked 2 3; 1 lock_within 0: clean 7 8 | words 0 0 0 0 2 1
+both 1 | 0 lock_within 0: clean 11 12; 1 lock_within 0: not-yet 9 10; 1 lock_within 3: not-yet 8 9; 0 unlock: unlocked 2 3; 1 lock_within 0: clean 7 8 | words 0 0 0 0 2 1
+# withdraw_member: a place in the line that is given up
+running 1 | 0 lock_within 0: clean; 1 lock_within 0: not-yet; 1 withdraw: withdrawn 1 2; 1 withdraw: not-owner - 0 | words 0 1 1 0 0 0
+# an entry and an exit
+running 4 | 0 unlock: not-owner 0 0; 0 lock_within 0: clean 11; 0 lock_within 0: already-in - 0; 0 put 2 7: put; 0 get 2: 7; 0 get 4: bad-index - 0; 0 consistent: not-inconsistent - 0; 1 lock_within 3: not-yet; 1 get 2: not-owner - 0; 1 withdraw: withdrawn 1; 1 withdraw: not-owner - 0; 0 unlock: unlocked 2; 1 lock_within 0: clean; 1 get 2: 7 | anything
+# a crash inside
+both 4 | 0 lock_within 0 @12: crashed 11; 0 get 0: not-owner - 0; 0 consistent: not-inconsistent - 0; 1 lock_within 9: not-yet; 0 recover: inside 3; 0 consistent: nothing-to-mend 2; 0 unlock: unlocked; 0 recover: idle; 1 lock_within 0: clean | anything
+# crash_sweep
+both 4 | 0 append_within 1 5 0 @1: crashed 0; 0 append_within 1 5 0: stored 26; 1 append_within 1 9 0 @never: stored | messages 0 1 5; 1 1 9
+both 4 | 0 append_within 1 5 0 @2: crashed 1; 0 append_within 1 5 0: stored 26; 1 append_within 1 9 0 @never: stored | messages 0 1 5; 1 1 9
+both 4 | 0 append_within 1 5 0 @3: crashed 2; 0 append_within 1 5 0: stored 26; 1 append_within 1 9 0 @never: stored | messages 0 1 5; 1 1 9
+both 4 | 0 append_within 1 5 0 @4: crashed 3; 0 append_within 1 5 0: stored 26; 1 append_within 1 9 0 @never: stored | messages 0 1 5; 1 1 9
+both 4 | 0 append_within 1 5 0 @5: crashed 4; 0 append_within 1 5 0: stored 25; 1 append_within 1 9 0 @never: stored | messages 0 1 5; 1 1 9
+both 4 | 0 append_within 1 5 0 @6: crashed 5; 0 append_within 1 5 0: stored 25; 1 append_within 1 9 0 @never: stored | messages 0 1 5; 1 1 9
+both 4 | 0 append_within 1 5 0 @7: crashed 6; 0 append_within 1 5 0: stored 23; 1 append_within 1 9 0 @never: stored | messages 0 1 5; 1 1 9
+both 4 | 0 append_within 1 5 0 @8: crashed 7; 0 append_within 1 5 0: stored 22; 1 append_within 1 9 0 @never: stored | messages 0 1 5; 1 1 9
+both 4 | 0 append_within 1 5 0 @9: crashed 8; 0 append_within 1 5 0: stored 22; 1 append_within 1 9 0 @never: stored | messages 0 1 5; 1 1 9
+both 4 | 0 append_within 1 5 0 @10: crashed 9; 0 append_within 1 5 0: stored 22; 1 append_within 1 9 0 @never: stored | messages 0 1 5; 1 1 9
+both 4 | 0 append_within 1 5 0 @11: crashed 10; 0 append_within 1 5 0: stored 21; 1 append_within 1 9 0 @never: stored | messages 0 1 5; 1 1 9
+both 4 | 0 append_within 1 5 0 @12: crashed 11; 0 append_within 1 5 0: stored 21; 1 append_within 1 9 0 @never: stored | messages 0 1 5; 1 1 9
+both 4 | 0 append_within 1 5 0 @13: crashed 12; 0 append_within 1 5 0: stored 21; 1 append_within 1 9 0 @never: stored | messages 0 1 5; 1 1 9
+both 4 | 0 append_within 1 5 0 @14: crashed 13; 0 append_within 1 5 0: stored 21; 1 append_within 1 9 0 @never: stored | messages 0 1 5; 1 1 9
+both 4 | 0 append_within 1 5 0 @15: crashed 14; 0 append_within 1 5 0: stored 21; 1 append_within 1 9 0 @never: stored | messages 0 1 5; 1 1 9
+both 4 | 0 append_within 1 5 0 @16: crashed 15; 0 append_within 1 5 0: stored 21; 1 append_within 1 9 0 @never: stored | messages 0 1 5; 1 1 9
+both 4 | 0 append_within 1 5 0 @17: crashed 16; 0 append_within 1 5 0: stored 21; 1 append_within 1 9 0 @never: stored | messages 0 1 5; 1 1 9
+both 4 | 0 append_within 1 5 0 @18: crashed 17; 0 append_within 1 5 0: stored 21; 1 append_within 1 9 0 @never: stored | messages 0 1 5; 1 1 9
+both 4 | 0 append_within 1 5 0 @19: crashed 18; 0 append_within 1 5 0: already 20; 1 append_within 1 9 0 @never: stored | messages 0 1 5; 1 1 9
+both 4 | 0 append_within 1 5 0 @20: crashed 19; 0 append_within 1 5 0: already 20; 1 append_within 1 9 0 @never: stored | messages 0 1 5; 1 1 9
+both 4 | 0 append_within 1 5 0 @21: crashed 20; 0 append_within 1 5 0: already 20; 1 append_within 1 9 0 @never: stored | messages 0 1 5; 1 1 9
+both 4 | 0 append_within 1 5 0 @22: crashed 21; 0 append_within 1 5 0: already 20; 1 append_within 1 9 0 @never: stored | messages 0 1 5; 1 1 9
+both 4 | 0 append_within 1 5 0 @23: crashed 22; 0 append_within 1 5 0: already 20; 1 append_within 1 9 0 @never: stored | messages 0 1 5; 1 1 9
+both 4 | 0 append_within 1 5 0 @24: crashed 23; 0 append_within 1 5 0: already 20; 1 append_within 1 9 0 @never: stored | messages 0 1 5; 1 1 9
+both 4 | 0 append_within 1 5 0 @25: crashed 24; 0 append_within 1 5 0: already 11; 1 append_within 1 9 0 @never: stored | messages 0 1 5; 1 1 9
+both 4 | 0 append_within 1 5 0 @26: crashed 25; 0 append_within 1 5 0: already 17; 1 append_within 1 9 0 @never: stored | messages 0 1 5; 1 1 9
+both 4 | 0 append_within 1 5 0 @27: crashed 26; 0 append_within 1 5 0: already 16; 1 append_within 1 9 0 @never: stored | messages 0 1 5; 1 1 9
+# blocked_by_a_crash
+both 4 | 0 append_within 1 5 0 @1: crashed; 1 lock_within 0: clean | anything
+both 4 | 0 append_within 1 5 0 @2: crashed; 1 lock_within 0: clean | anything
+both 4 | 0 append_within 1 5 0 @3: crashed; 1 lock_within 0: clean | anything
+both 4 | 0 append_within 1 5 0 @4: crashed; 1 lock_within 0: clean | anything
+both 4 | 0 append_within 1 5 0 @5: crashed; 1 lock_within 0: not-yet 8 | anything
+both 4 | 0 append_within 1 5 0 @6: crashed; 1 lock_within 0: not-yet 8 | anything
+both 4 | 0 append_within 1 5 0 @7: crashed; 1 lock_within 0: not-yet 8 | anything
+both 4 | 0 append_within 1 5 0 @8: crashed; 1 lock_within 0: not-yet 9 | anything
+both 4 | 0 append_within 1 5 0 @9: crashed; 1 lock_within 0: not-yet 9 | anything
+both 4 | 0 append_within 1 5 0 @10: crashed; 1 lock_within 0: not-yet 9 | anything
+both 4 | 0 append_within 1 5 0 @11: crashed; 1 lock_within 0: not-yet 9 | anything
+both 4 | 0 append_within 1 5 0 @12: crashed; 1 lock_within 0: not-yet 9 | anything
+both 4 | 0 append_within 1 5 0 @13: crashed; 1 lock_within 0: not-yet 9 | anything
+both 4 | 0 append_within 1 5 0 @14: crashed; 1 lock_within 0: not-yet 9 | anything
+both 4 | 0 append_within 1 5 0 @15: crashed; 1 lock_within 0: not-yet 9 | anything
+both 4 | 0 append_within 1 5 0 @16: crashed; 1 lock_within 0: not-yet 9 | anything
+both 4 | 0 append_within 1 5 0 @17: crashed; 1 lock_within 0: not-yet 9 | anything
+both 4 | 0 append_within 1 5 0 @18: crashed; 1 lock_within 0: not-yet 9 | anything
+both 4 | 0 append_within 1 5 0 @19: crashed; 1 lock_within 0: not-yet 9 | anything
+both 4 | 0 append_within 1 5 0 @20: crashed; 1 lock_within 0: not-yet 9 | anything
+both 4 | 0 append_within 1 5 0 @21: crashed; 1 lock_within 0: not-yet 9 | anything
+both 4 | 0 append_within 1 5 0 @22: crashed; 1 lock_within 0: not-yet 9 | anything
+both 4 | 0 append_within 1 5 0 @23: crashed; 1 lock_within 0: not-yet 9 | anything
+both 4 | 0 append_within 1 5 0 @24: crashed; 1 lock_within 0: not-yet 9 | anything
+both 4 | 0 append_within 1 5 0 @25: crashed; 1 lock_within 0: not-yet 9 | anything
+both 4 | 0 append_within 1 5 0 @26: crashed; 1 lock_within 0: clean | anything
+both 4 | 0 append_within 1 5 0 @27: crashed; 1 lock_within 0: clean | anything";
+
+/// Plays a row. It answers the first call that comes to something else, or else what it should have left.
+fn wrong_row<'r, R: Abort + Wait>(rt: &R, alloc: Global, row: &'r str) -> Option<&'r str> {
+    let mut left = row;
+    let mut locks = cut(&mut left, " | ");
+    let rows = cut(&mut left, " | ");
+    let is_both = cut(&mut locks, " ") == "both";
+    let cap = number(&mut locks);
+    let played = Played { cap, rows, left };
+    if is_both {
+        wrong_on_both(rt, alloc, played)
+    } else {
+        wrong_on_either_path(rt, alloc, played)
     }
 }
 
-/// An unlock that ruins the lock, and the members that lock after it.
 #[test]
-fn ruined(rt: HostRuntime) {
-    let played = Played {
-        cap: 1,
-        rows: "0 lock_within 0 @12: crashed 11 12; 0 lock_within 0: owner-died 4 5; 0 unlock: unlocked 3 4; \
-               1 lock_within 0: not-recoverable 13 14; 0 lock_within 0: not-recoverable 13 14",
-        left: "words 0 0 0 0 0 0 1",
-    };
-    let wrong = wrong_on_both(&rt, rt.alloc(), played);
-    assert!(&rt; wrong.is_none(), "{wrong:?}");
-}
-
-/// A lock that gives up, and one that waits on and keeps its place.
-#[test]
-fn place_kept(rt: HostRuntime) {
-    for rows in [
-        "0 lock_within 0: clean 11 12; 1 lock_within 0: not-yet 9 10; 0 unlock: unlocked 2 3; \
-         1 lock_within 0: clean 7 8",
-        "0 lock_within 0: clean 11 12; 1 lock_within 0: not-yet 9 10; 1 lock_within 3: not-yet 8 9; \
-         0 unlock: unlocked 2 3; 1 lock_within 0: clean 7 8",
-    ] {
-        let left = "words 0 0 0 0 2 1";
-        let wrong = wrong_on_both(&rt, rt.alloc(), Played { cap: 1, rows, left });
-        assert!(&rt; wrong.is_none(), "{wrong:?}");
+fn each_row_holds(rt: HostRuntime) {
+    for row in ROWS.split('\n') {
+        if !row.starts_with("# ") {
+            let wrong = wrong_row(&rt, rt.alloc(), row);
+            assert!(&rt; wrong.is_none(), "{wrong:?} in {row}");
+        }
     }
-}
-
-/// A place in the line that is given up.
-#[test]
-fn withdraw_member(rt: HostRuntime) {
-    let played = Played {
-        cap: 1,
-        rows: "0 lock_within 0: clean; 1 lock_within 0: not-yet; 1 withdraw: withdrawn 1 2; \
-               1 withdraw: not-owner - 0",
-        left: "words 0 1 1 0 0 0",
-    };
-    let wrong = wrong_on_either_path(&rt, rt.alloc(), played);
-    assert!(&rt; wrong.is_none(), "{wrong:?}");
-}
-
-#[test]
-fn an_entry_and_an_exit(rt: HostRuntime) {
-    let played = Played {
-        cap: 4,
-        rows: "0 unlock: not-owner 0 0; 0 lock_within 0: clean 11; 0 lock_within 0: already-in - 0; \
-               0 put 2 7: put; 0 get 2: 7; 0 get 4: bad-index - 0; 0 consistent: not-inconsistent - 0; \
-               1 lock_within 3: not-yet; 1 get 2: not-owner - 0; 1 withdraw: withdrawn 1; \
-               1 withdraw: not-owner - 0; 0 unlock: unlocked 2; 1 lock_within 0: clean; 1 get 2: 7",
-        left: "anything",
-    };
-    let wrong = wrong_on_either_path(&rt, rt.alloc(), played);
-    assert!(&rt; wrong.is_none(), "{wrong:?}");
-}
-
-#[test]
-fn a_crash_inside(rt: HostRuntime) {
-    let played = Played {
-        cap: 4,
-        rows: "0 lock_within 0 @12: crashed 11; 0 get 0: not-owner - 0; 0 consistent: not-inconsistent - 0; \
-               1 lock_within 9: not-yet; 0 recover: inside 3; 0 consistent: nothing-to-mend 2; \
-               0 unlock: unlocked; 0 recover: idle; 1 lock_within 0: clean",
-        left: "anything",
-    };
-    let wrong = wrong_on_both(&rt, rt.alloc(), played);
-    assert!(&rt; wrong.is_none(), "{wrong:?}");
 }
 
 /// Plays rows of a member of an arena of its own, which then closes the mailbox.

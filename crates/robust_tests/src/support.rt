@@ -2,7 +2,6 @@
 //! rows of calls, plans and gates that report what they met, and the messages that are expected.
 
 pub mod counted;
-pub mod cut_off;
 pub mod gated;
 pub mod messages;
 pub mod noting;

@@ -1,12 +1,13 @@
 //! A gate that holds its worker at one asking until the other worker has got far enough.
 
+use super::text::number;
 use crash_plans::{CrashPlan, Never};
 use crossbeam_utils::Backoff;
 use std::alloc::{AllocError, Global};
 use std::sync::Arc;
 use std::sync::atomic::{AtomicU64, Ordering};
-use std::test::Fail;
 use table_runs::lab::Gate;
+use test_support::text::cut;
 
 /// How often a gate checks before it gives up.
 const MOST_LOOKS: u64 = 10_000_000;
@@ -22,8 +23,20 @@ pub struct WorkerProgress {
 }
 
 impl WorkerProgress {
+    /// Adds this many workers that have not asked yet.
+    pub fn add(
+        alloc: Global,
+        count: u64,
+        workers: &mut Vec<Arc<WorkerProgress>>,
+    ) -> Result<(), AllocError> {
+        for _ in 0..count {
+            workers.push(WorkerProgress::new(alloc)?)?;
+        }
+        Ok(())
+    }
+
     /// A worker that has not asked yet.
-    pub fn new(alloc: Global) -> Result<Arc<WorkerProgress>, AllocError> {
+    fn new(alloc: Global) -> Result<Arc<WorkerProgress>, AllocError> {
         let progress = WorkerProgress {
             askings: AtomicU64::new(0),
             answer: AtomicU64::new(0),
@@ -40,7 +53,7 @@ impl WorkerProgress {
 
     /// The worker has asked at least and at most this often, and its last answer, reported after its last asking, is this
     /// one; 0 is none.
-    pub fn has_reported(&self, answer: u64, least: u64, most: u64) -> bool {
+    fn has_reported(&self, answer: u64, least: u64, most: u64) -> bool {
         let askings = self.askings.load(Ordering::SeqCst);
         let last = if answer == 0 { 0 } else { askings };
         least <= askings
@@ -59,17 +72,37 @@ pub enum Until {
 
 /// Where the gate of a worker holds it, and what the worker has reported in the end.
 #[derive(Clone, Copy)]
-pub struct Hold {
-    /// The asking at which it is held; 0 for none.
-    pub at: u64,
-    pub until: Until,
-    /// The worker that has to get that far.
-    pub on: usize,
-    /// Its last answer; 0 for none.
-    pub answer: u64,
-    /// The askings in the end: at least and at most as many.
-    pub least: u64,
-    pub most: u64,
+struct Hold {
+    // the asking at which it is held; 0 for none
+    at: u64,
+    until: Until,
+    // the worker that has to get that far
+    on: usize,
+    // its last answer; 0 for none
+    answer: u64,
+    // the askings in the end: at least and at most as many
+    least: u64,
+    most: u64,
+}
+
+/// The hold of these words, as in `12 asking 20 1 1 27 27`.
+fn hold_of(words: &str) -> Hold {
+    let mut rest = words;
+    let at = number(&mut rest);
+    let is_asking = cut(&mut rest, " ") == "asking";
+    let far = number(&mut rest);
+    Hold {
+        at,
+        until: if is_asking {
+            Until::Asking(far)
+        } else {
+            Until::Answer(far)
+        },
+        on: number(&mut rest) as usize,
+        answer: number(&mut rest),
+        least: number(&mut rest),
+        most: number(&mut rest),
+    }
 }
 
 /// A gate without a crash. It holds its worker at the asking with this number.
@@ -84,7 +117,7 @@ pub struct Gated {
 }
 
 impl Gated {
-    pub fn new(
+    fn new(
         at: u64,
         until: Until,
         mine: &Arc<WorkerProgress>,
@@ -152,20 +185,31 @@ pub fn meeting(
     Ok((first, second, zero, one))
 }
 
-/// A gate for each worker, and how far each has got.
-pub fn gates_of(
-    alloc: Global,
-    holds: &[Hold],
-) -> Result<(Vec<Gated>, Vec<Arc<WorkerProgress>>), Fail> {
-    let mut workers = Vec::new(alloc);
-    for _ in holds {
-        workers.push(WorkerProgress::new(alloc)?)?;
-    }
-    let mut gates = Vec::new(alloc);
-    for (p, hold) in holds.iter().enumerate() {
-        let mine = workers.get(p).ok_or("a worker")?;
-        let others = workers.get(hold.on).ok_or("another")?;
+/// Adds a gate for each worker, by these holds, which are separated by `; `.
+pub fn add_gates(
+    holds: &str,
+    workers: &[Arc<WorkerProgress>],
+    gates: &mut Vec<Gated>,
+) -> Result<(), AllocError> {
+    let mut rest = holds;
+    for mine in workers {
+        let hold = hold_of(cut(&mut rest, "; "));
+        let Some(others) = workers.get(hold.on) else {
+            return Err(AllocError);
+        };
         gates.push(Gated::new(hold.at, hold.until, mine, others)?)?;
     }
-    Ok((gates, workers))
+    Ok(())
+}
+
+/// Whether no gate has given up, and each worker has reported what its hold says.
+pub fn have_reported(workers: &[Arc<WorkerProgress>], holds: &str) -> bool {
+    let mut rest = holds;
+    for worker in workers {
+        let hold = hold_of(cut(&mut rest, "; "));
+        if worker.has_given_up() || !worker.has_reported(hold.answer, hold.least, hold.most) {
+            return false;
+        }
+    }
+    true
 }

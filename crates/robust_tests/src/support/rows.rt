@@ -240,10 +240,13 @@ pub fn wrong<'r, M: Tested, C: CrashPlan, R: Wait>(
 {
     let (mut one, mut other) = members;
     let row = first_wrong_of_two(rt, &mut one, &mut other, plan, rows);
-    if row.is_some() {
-        return row;
-    }
-    match M::gathered(rt, alloc, one, other) {
+    let image = M::gathered(rt, alloc, one, other);
+    row.or(wrong_image(alloc, image, left))
+}
+
+/// What the image should have shown, where it shows something else.
+fn wrong_image<'r>(alloc: Global, image: Option<Image>, left: &'r str) -> Option<&'r str> {
+    match image {
         Some(image) if is_left(alloc, &image, left) => None,
         _ => Some(left),
     }

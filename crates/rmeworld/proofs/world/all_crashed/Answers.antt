@@ -1,0 +1,14 @@
+use Rattle.std.proofs.Common.{ap, ◌∙◌, arith}
+use Rattle.rmeworld.proofs.Common.{resting, machine_after_crash, absent_machine}
+use Rattle.rmeworld.proofs.IndexedLists.{each_more}
+use Rattle.rmeworld.proofs.world.all_crashed.Goals as goal
+
+pub loop-index-preserved : goal.loop-index-preserved
+loop-index-preserved c =
+    let i = c.loop-index.invariant in
+    let dead = c.crash.ensures ∙ ap machine_after_crash c.new-process.ensures in
+    record {
+      length = omega (arith, c.push_reserved.ensures.len, i.length);
+      room = omega (arith, c.push_reserved.ensures.capacity, i.room);
+      each = each_more c.loop-index.processes.items _ c.crash.new.self absent_machine (λ p. machine_after_crash (resting c.args.layout c.args.limit p)) c.loop-index.index i.length i.each c.push_reserved.ensures.items dead;
+    }

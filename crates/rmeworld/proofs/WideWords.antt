@@ -15,7 +15,7 @@ length-padded n xs h = omega (arith, length-append xs (zeros (n - length xs)), l
 length-words_from : (i n : ℕ) (xs : List ℕ) → i + n ≤ length xs → length (words_from i n xs) ≡ n
 length-words_from i n xs h = omega (arith, length-take n (drop i xs), length-drop i xs)
 
--- the lists that the parts of `push_all` append
+-- the lists that the parts of a wider image append
 pub padded_from : (before between after xs : List ℕ) (i n wide : ℕ) → i + n ≤ length xs → between ≡ before ++ words_from i n xs → after ≡ between ++ zeros (wide - n)
     → after ≡ before ++ padded_words wide (words_from i n xs)
 padded_from before between after xs i n wide h e f =

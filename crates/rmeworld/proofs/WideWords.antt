@@ -15,7 +15,7 @@ length-padded n xs h = omega (arith, length-append xs (zeros (n - length xs)), l
 length-words_from : (i n : ℕ) (xs : List ℕ) → i + n ≤ length xs → length (words_from i n xs) ≡ n
 length-words_from i n xs h = omega (arith, length-take n (drop i xs), length-drop i xs)
 
--- the lists that the parts of `push_all` append
+-- the lists that the parts of a wider image append
 pub padded_from : (before between after xs : List ℕ) (i n wide : ℕ) → i + n ≤ length xs → between ≡ before ++ words_from i n xs → after ≡ between ++ zeros (wide - n)
     → after ≡ before ++ padded_words wide (words_from i n xs)
 padded_from before between after xs i n wide h e f =
@@ -46,16 +46,6 @@ front_from before one two after xs l wide e f g =
     g
     ∙ ap (λ ys. ys ++ others) (f ∙ ap (λ ys. ys ++ value) e ∙ append_assoc before head value)
     ∙ append_assoc before (head ++ value) others
-
-pub one_place_more : (before between after xs : List ℕ) (l : Layout) (wide a : ℕ) → between ≡ before ++ wide_words l wide xs a
-    → after ≡ between ++ wide_place l wide xs a
-    → after ≡ before ++ wide_words l wide xs (a + 1)
-one_place_more before between after xs l wide a e f =
-    let next : suc a ≡ a + 1 = omega arith in
-    f
-    ∙ ap (λ ys. ys ++ wide_place l wide xs a) e
-    ∙ append_assoc before (wide_words l wide xs a) (wide_place l wide xs a)
-    ∙ ap (λ k. before ++ wide_words l wide xs k) next
 
 -- a range between two lists
 row_between : (front bs cs ys : List ℕ) (i n : ℕ) → ys ≡ front ++ (bs ++ cs) → length front ≡ i → length bs ≡ n → row (words_of ys) i n ≡ bs

@@ -70,28 +70,11 @@ fn wide_cells(
     ensures { IfOk result (λ cells. cells.items ≡ wide_words layout width words.now layout.cap) }
 {
     let mut cells = Vec::with_capacity(alloc, words.len())?;
-    push_all(&mut cells, layout, words, width)?;
-    Ok(cells)
-}
-
-/// Appends the data words, with wider values.
-fn push_all(
-    cells: &mut Vec<u64>,
-    layout: Layout,
-    words: &[u64],
-    width: u64,
-) -> Result<(), AllocError>
-    requires heads { HeadsHold layout words.now }
-    requires few { layout.procs ≤ 64 }
-    requires long { 10 + layout.width + layout.procs ≤ length words.now }
-    requires wide { layout.width ≤ width }
-    ensures { OnOk result (cells.new.items ≡ cells.old.items ++ wide_words layout width words.now layout.cap) }
-{
-    push_front(cells, layout, words, width)?;
+    push_front(&mut cells, layout, words, width)?;
     for a in 0..layout.cap {
-        push_place(cells, layout, words, a, width)?;
+        push_place(&mut cells, layout, words, a, width)?;
     }
-    Ok(())
+    Ok(cells)
 }
 
 /// Appends the words before the first place.

@@ -15,7 +15,7 @@ from typing import IO
 try:
     import zstandard
 except ImportError:
-    zstandard = None
+    zstandard = None  # type: ignore[assignment]
 
 FOUND, REFUSED, FAILED = 1, 2, 3
 CLOSED = re.compile(r"closed: (\d+) states, part (\d+) of (\d+), sha256 ([0-9a-f]{64})\n")
@@ -46,10 +46,11 @@ def pack(text: bytes) -> bytes:
     return gzip.compress(text, 1)
 
 
-def unpacked(file: IO[bytes]) -> IO[bytes]:
+def unpacked(file: IO[bytes]) -> io.BufferedIOBase:
     """The text of a file of packed ones."""
     if zstandard:
-        return io.BufferedReader(zstandard.ZstdDecompressor().stream_reader(file, read_across_frames=True), PIECE)
+        reader = zstandard.ZstdDecompressor().stream_reader(file, read_across_frames=True)
+        return io.BufferedReader(reader, PIECE)  # type: ignore[arg-type]
     return gzip.GzipFile(fileobj=file)
 
 
@@ -57,7 +58,7 @@ def unpack(packed: bytes) -> bytes:
     return unpacked(io.BytesIO(packed)).read()
 
 
-def pieces_of(file: IO[bytes], size: int = PIECE) -> Iterator[bytes]:
+def pieces_of(file: io.BufferedIOBase, size: int = PIECE) -> Iterator[bytes]:
     """What a file has, by so many bytes."""
     while piece := file.read(size):
         yield piece

@@ -26,6 +26,8 @@ mod refusals;
 #[cfg(test)]
 mod shrinks;
 #[cfg(test)]
+mod tables;
+#[cfg(test)]
 mod texts;
 #[cfg(test)]
 mod traces;

@@ -90,15 +90,6 @@ impl Seen {
         Ok((Call::Append { seq, value }, case))
     }
 
-    /// The case of a crash.
-    fn crash(&self) -> u64 {
-        match self.position {
-            Position::AtRest | Position::Dead => CRASH_AT_REST,
-            Position::InACall => CRASH_IN_A_CALL,
-            Position::Inside => CRASH_INSIDE,
-        }
-    }
-
     /// Notes an answer.
     fn answered(&mut self, answer: Answer) {
         self.position = Position::Inside;
@@ -129,7 +120,11 @@ fn made(world: &mut VariantWorld, seen: &mut Seen, line: Line) -> Result<u64, Re
     match line {
         Line::Crash(p) => {
             world.crash(p)?;
-            let case = seen.crash();
+            let case = match seen.position {
+                Position::AtRest | Position::Dead => CRASH_AT_REST,
+                Position::InACall => CRASH_IN_A_CALL,
+                Position::Inside => CRASH_INSIDE,
+            };
             seen.position = Position::Dead;
             Ok(case)
         }
@@ -155,22 +150,17 @@ fn made(world: &mut VariantWorld, seen: &mut Seen, line: Line) -> Result<u64, Re
     }
 }
 
-/// The process of a line. None for a crash of all, which the rule never draws.
-fn process_of(line: Line) -> Option<u64> {
-    match line {
-        Line::Crash(p) => Some(p),
-        Line::Step(p, _) => Some(p),
-        Line::Start(p, _) => Some(p),
-        Line::CrashAll => None,
-    }
-}
-
-/// The cases of the rule in a schedule that was found. None: the rule does not ask for one of its moves.
+/// The cases of the rule in a schedule that was found. None: the rule does not ask for one of its moves. It never draws a crash of
+/// all.
 fn cases(world: &mut VariantWorld, found: &Schedule) -> Option<u64> {
     let mut seen = [UNSEEN; 3];
     let mut cases = 0;
     for line in found.lines() {
-        let here = seen.get_mut(process_of(*line)? as usize)?;
+        let p = match line {
+            Line::Crash(p) | Line::Step(p, _) | Line::Start(p, _) => *p,
+            Line::CrashAll => return None,
+        };
+        let here = seen.get_mut(p as usize)?;
         let case = made(world, here, *line).unwrap_or(0);
         if case == 0 {
             return None;
@@ -230,40 +220,31 @@ fn has_moves(alloc: Global, found: &Schedule, moves: &str) -> bool {
     }
 }
 
-/// The cases of the rule in the schedule, played on a new world of the variant.
-fn cases_on(alloc: Global, variant: Variant, found: &Schedule) -> Option<u64> {
-    match VariantWorld::new(alloc, variant, 3, 1_000_000, 64, 1) {
-        Ok(mut world) => cases(&mut world, found),
-        Err(_) => None,
-    }
-}
-
-/// The cases of the rule in the schedule that the hunt finds. None: it does not have these moves.
+/// The cases of the rule in the schedule that the hunt finds, played on a new world of the variant. None: it does not have these
+/// moves.
 fn drawn(alloc: Global, variant: Variant, seed: u64, moves: &str) -> Option<u64> {
-    match hunt(alloc, variant, seed, 10_000, 1_000) {
-        Ok(Some(found)) if has_moves(alloc, &found, moves) => cases_on(alloc, variant, &found),
+    match (
+        hunt(alloc, variant, seed, 10_000, 1_000),
+        VariantWorld::new(alloc, variant, 3, 1_000_000, 64, 1),
+    ) {
+        (Ok(Some(found)), Ok(mut world)) if has_moves(alloc, &found, moves) => {
+            cases(&mut world, &found)
+        }
         _ => None,
     }
-}
-
-/// The cases of the rule in the schedules that the hunts of the first seeds find. None: one does not have its moves.
-fn all_drawn(alloc: Global, variant: Variant, schedules: &str) -> Option<u64> {
-    let mut all = 0;
-    let mut seed = 0u64;
-    for moves in schedules.split(' ') {
-        seed = seed.saturating_add(1);
-        all |= drawn(alloc, variant, seed, moves)?;
-    }
-    Some(all)
 }
 
 #[test]
 fn hunts_draw_by_the_rule(rt: HostRuntime) {
     let mut all = 0;
     for (variant, schedules) in DRAWN {
-        let cases = all_drawn(rt.alloc(), variant, schedules);
-        assert!(rt; cases.is_some(), "{variant:?}");
-        all |= cases.unwrap_or(0);
+        let mut seed = 0u64;
+        for moves in schedules.split(' ') {
+            seed = seed.saturating_add(1);
+            let cases = drawn(rt.alloc(), variant, seed, moves);
+            assert!(rt; cases.is_some(), "{variant:?} {seed}");
+            all |= cases.unwrap_or(0);
+        }
     }
     // each case
     assert!(rt; all == ALL);

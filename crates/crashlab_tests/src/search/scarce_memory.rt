@@ -111,20 +111,6 @@ fn pours<R: Threads + Sync + Abort>(
     )
 }
 
-/// Of seven jobs two of the threads that they ask for can't be made. Where no thread can be made, one does all the work.
-#[test]
-fn searches_of_jugs_while_memory_is_scarce(rt: HostRuntime) -> Result<(), Fail> {
-    for (name, jobs, with_threads) in [
-        ("two jobs", 2, true),
-        ("three jobs", 3, true),
-        ("seven jobs", 7, true),
-        ("without threads", 3, false),
-    ] {
-        pours(&rt, rt.alloc(), name, jobs, with_threads)?;
-    }
-    Ok(())
-}
-
 /// A search of the lock.
 const SIZES: Sizes = Sizes {
     variant: Variant::ExitOnCrash,
@@ -187,19 +173,6 @@ fn explores<R: Threads + Sync + Abort>(
     )
 }
 
-#[test]
-fn searches_of_the_lock_while_memory_is_scarce(rt: HostRuntime) -> Result<(), Fail> {
-    for (name, variables, with_threads) in [
-        ("all variables", Variables::All, true),
-        ("live variables", Variables::Live, true),
-        ("all variables without threads", Variables::All, false),
-        ("live variables without threads", Variables::Live, false),
-    ] {
-        explores(&rt, rt.alloc(), name, variables, with_threads)?;
-    }
-    Ok(())
-}
-
 const ROUNDS: u64 = 400;
 
 const STEPS: u64 = 90;
@@ -243,9 +216,52 @@ fn hunts<R: Threads + Sync + Abort>(
     refuse_in_turn(rt, alloc, name, with_threads, || is_hunted(rt, alloc, &one))
 }
 
+// A test for each row that makes threads: the C library keeps the stacks of threads that have ended, and what they free.
+
 #[test]
-fn hunts_while_memory_is_scarce(rt: HostRuntime) -> Result<(), Fail> {
-    hunts(&rt, rt.alloc(), "with threads", true)?;
-    hunts(&rt, rt.alloc(), "without threads", false)?;
+fn a_search_by_two_jobs(rt: HostRuntime) -> Result<(), Fail> {
+    pours(&rt, rt.alloc(), "two jobs", 2, true)?;
+    Ok(())
+}
+
+#[test]
+fn a_search_by_three_jobs(rt: HostRuntime) -> Result<(), Fail> {
+    pours(&rt, rt.alloc(), "three jobs", 3, true)?;
+    Ok(())
+}
+
+/// Two of the threads that they ask for can't be made.
+#[test]
+fn a_search_by_seven_jobs(rt: HostRuntime) -> Result<(), Fail> {
+    pours(&rt, rt.alloc(), "seven jobs", 7, true)?;
+    Ok(())
+}
+
+#[test]
+fn a_search_of_the_lock_by_three_jobs(rt: HostRuntime) -> Result<(), Fail> {
+    explores(&rt, rt.alloc(), "all variables", Variables::All, true)?;
+    Ok(())
+}
+
+#[test]
+fn a_search_by_live_variables_by_three_jobs(rt: HostRuntime) -> Result<(), Fail> {
+    explores(&rt, rt.alloc(), "live variables", Variables::Live, true)?;
+    Ok(())
+}
+
+#[test]
+fn a_hunt_by_three_jobs(rt: HostRuntime) -> Result<(), Fail> {
+    hunts(&rt, rt.alloc(), "a hunt", true)?;
+    Ok(())
+}
+
+/// Where no thread can be made, one does all the work.
+#[test]
+fn searches_and_a_hunt_without_threads(rt: HostRuntime) -> Result<(), Fail> {
+    let alloc = rt.alloc();
+    pours(&rt, alloc, "jugs", 3, false)?;
+    explores(&rt, alloc, "all variables", Variables::All, false)?;
+    explores(&rt, alloc, "live variables", Variables::Live, false)?;
+    hunts(&rt, alloc, "a hunt", false)?;
     Ok(())
 }

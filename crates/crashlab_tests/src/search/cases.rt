@@ -122,10 +122,19 @@ fn jugs_and_test_and_set(rt: HostRuntime) -> Result<(), Fail> {
 }
 
 #[test]
-fn worlds_of_variants(rt: HostRuntime) -> Result<(), Fail> {
+fn shortest_schedules(rt: HostRuntime) -> Result<(), Fail> {
     for (table, kind, cases) in [
         ("shortest schedules", Kind::Schedule, schedules::SHORTEST),
         ("bounds", Kind::Schedule, schedules::BOUNDS),
+    ] {
+        compare_cases(rt.alloc(), table, kind, cases)?;
+    }
+    Ok(())
+}
+
+#[test]
+fn stuck_and_starving_worlds(rt: HostRuntime) -> Result<(), Fail> {
+    for (table, kind, cases) in [
         ("stuck worlds", Kind::Stuck, worlds::STUCK),
         ("starving worlds", Kind::Starving, worlds::STARVING),
     ] {

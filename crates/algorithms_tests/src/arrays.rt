@@ -1,13 +1,8 @@
 //! Arrays of other sizes than `procs`, and tables, against the numbers of the reference program's second version.
 
-use crate::cases::{Kind, compare_cases};
-use crate::texts::arrays;
-use algorithm_texts::read_algorithm;
-use algorithms::{Address, Algorithm};
-use std::test::Fail;
-
 /// What a text with tables spells.
-const SPELLED: &str = "== corner
+pub const SPELLED: &str = "spell tables
+== corner
 --
 Access(AccessLine { word: WordOf { declaration: 1, index: Some(Joined(Difference, Limit, Number(1))) }, action: Load { name: 0 }, may_withdraw: false })
 Access(AccessLine { word: WordOf { declaration: 0, index: Some(Joined(Sum, Joined(Product, Number(0), Procs), Joined(Within, Joined(Sum, Private(0), Me), Procs))) }, action: Load { name: 0 }, may_withdraw: false })
@@ -28,7 +23,8 @@ first values Some(FirstValues { starts: [None, Some(Me)] })
 ";
 
 /// The numbers of texts with arrays, and sizes of which there is no world: an array without a word, and one of more than 64.
-const SEARCHES: &str = "\
+pub const SEARCHES: &str = "\
+search with arrays\n\
 == peterson_tournament 2 4 0\n--\n58 states\n\
 == peterson_tournament 3 4 0\n--\n1664 states\n\
 == clh 2 4 0\n--\n830 states\n\
@@ -40,7 +36,8 @@ const SEARCHES: &str = "\
 == corner 2 65 0\n--\nthe algorithm is not for this number of processes\n\
 ";
 
-const RUNS: &str = "\
+pub const RUNS: &str = "\
+run over arrays\n\
 == table 2 1\n\
 lock 0 -> started\n\
 step 0 -> 11 grid[5] 2\n\
@@ -76,7 +73,8 @@ words 0 0 0 0 0 1\n\
 ";
 
 /// What is wrong, a text, and where: the line, and the number of its fault.
-const BAD: &str = "\
+pub const BAD: &str = "\
+read faults of arrays\n\
 == me in a size\nalgorithm a for 2 processes\npromises exclusion\nshared w\nshared x[me]\ncall lock\n  v := w\n  w := 1 this is enter\n  done\ncall unlock\n  w := 0 this is leave\n  done\n--\nline 4: fault 4\n\
 == a name in a size\nalgorithm a for 2 processes\npromises exclusion\nshared w\nshared x[y]\ncall lock\n  v := w\n  w := 1 this is enter\n  done\ncall unlock\n  w := 0 this is leave\n  done\n--\nline 4: fault 4\n\
 == a shared word in a size\nalgorithm a for 2 processes\npromises exclusion\nshared w\nshared x[w]\ncall lock\n  v := w\n  w := 1 this is enter\n  done\ncall unlock\n  w := 0 this is leave\n  done\n--\nline 4: fault 7\n\
@@ -99,51 +97,22 @@ const BAD: &str = "\
 == a second index of a load\nalgorithm a for 2 processes\npromises exclusion\nshared w\nshared x[procs]\ncall lock\n  v := x[0][0]\n  w := 1 this is enter\n  done\ncall unlock\n  w := 0 this is leave\n  done\n--\nline 6: fault 4\n\
 ";
 
-const GOOD: &str = "\
+pub const GOOD: &str = "\
+read arrays\n\
 == brackets in a size\nalgorithm a for 2 processes\npromises exclusion\nshared w\nshared x[(procs)]\ncall lock\n  v := x[me]\n  w := 1 this is enter\n  done\ncall unlock\n  w := 0 this is leave\n  done\n--\nread\n\
 == a constant that is procs\nalgorithm a for 2 processes\npromises exclusion\nshared w\nconstant n = procs\nshared x[n]\ncall lock\n  v := x[me]\n  w := 1 this is enter\n  done\ncall unlock\n  w := 0 this is leave\n  done\n--\nread\n\
 == sizes of all parts\nalgorithm a for 2 processes\npromises exclusion\nshared w\nshared x[2 * procs + 1][max(limit, 2)] up to 9 starts owner at owner\ncall lock\n  x[me][1] := 1\n  w := 1 this is enter\n  done\ncall unlock\n  w := 0 this is leave\n  done\n--\nread\n\
 == one word in an array\nalgorithm a for 2 processes\npromises exclusion\nshared w\nshared x[1]\ncall lock\n  v := x[0]\n  w := 1 this is enter\n  done\ncall unlock\n  w := 0 this is leave\n  done\n--\nread\n\
 ";
 
-/// The home of a word in worlds of 2 processes.
-fn home(algorithm: &Algorithm, declaration: usize, index: u64) -> Option<u64> {
-    let word = Address { declaration, index };
-    algorithm.home_of(word, 2, 1)
-}
-
-#[test]
-fn the_owner_is_the_first_index(rt: HostRuntime) -> Result<(), Fail> {
-    let read = read_algorithm(rt.alloc(), arrays::TABLE)?;
-    let all = &read.algorithm;
-    let grid = (home(all, 0, 0), home(all, 0, 2), home(all, 0, 3));
-    let pair = (home(all, 1, 1), home(all, 1, 2), home(all, 1, 3));
-    assert!(rt; grid == (Some(0), Some(0), Some(1)));
-    assert!(rt; pair == (Some(0), Some(1), Some(1)));
-    Ok(())
-}
-
-#[test]
-fn tables_are_spelled(rt: HostRuntime) -> Result<(), Fail> {
-    compare_cases(rt.alloc(), Kind::Spelling, SPELLED)
-}
-
-#[test]
-fn searches_of_texts_with_arrays(rt: HostRuntime) -> Result<(), Fail> {
-    compare_cases(rt.alloc(), Kind::Search, SEARCHES)
-}
-
-#[test]
-fn runs_over_arrays(rt: HostRuntime) -> Result<(), Fail> {
-    compare_cases(rt.alloc(), Kind::Run, RUNS)
-}
-
-#[test]
-fn each_fault_of_an_array_has_its_line(rt: HostRuntime) -> Result<(), Fail> {
-    compare_cases(rt.alloc(), Kind::Reading, BAD)
-}
-
-#[test]
-fn arrays_are_read(rt: HostRuntime) -> Result<(), Fail> {
-    compare_cases(rt.alloc(), Kind::Reading, GOOD)
-}
+/// The owner of a word is its first index.
+pub const HOMES: &str = "\
+homes in arrays\n\
+== table 2\n\
+0 0 1 -> 0\n\
+0 2 1 -> 0\n\
+0 3 1 -> 1\n\
+1 1 1 -> 0\n\
+1 2 1 -> 1\n\
+1 3 1 -> 1\n\
+";

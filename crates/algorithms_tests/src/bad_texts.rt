@@ -1,13 +1,13 @@
 //! A text for each fault, with its line and its number, and some texts that have none.
 
-use crate::cases::{Kind, compare_cases};
 use algorithm_texts::read_algorithm;
 use std::alloc::Global;
 use std::fmt::Write;
 use std::test::Fail;
 
 /// What is wrong, a text, and where: the line, and the number of its fault.
-const BAD: &str = "\
+pub const BAD: &str = "\
+read texts with a fault\n\
 == empty\n--\nline 1: fault 1\n\
 == no header\npromises exclusion\n--\nline 1: fault 1\n\
 == header without for\nalgorithm a 2 processes\n--\nline 1: fault 1\n\
@@ -92,7 +92,8 @@ const BAD: &str = "\
 ";
 
 /// Texts in which nothing is wrong.
-const GOOD: &str = "\
+pub const GOOD: &str = "\
+read texts without a fault\n\
 == good\nalgorithm a for 2 processes\npromises exclusion\nshared flag[procs] up to 1\nshared turn\ncall lock\nl:\n  for j in others\n    v := flag[j]\n    if v = 1 then goto out\n  end\n  goto l\nout:\n  turn := v this is enter\n  done\ncall unlock\n  turn := 0 this is leave\n  done\n--\nread\n\
 == good\nalgorithm a for 2 processes\npromises exclusion\nshared flag[procs] up to 1\nshared turn\ncall lock\n  v := turn this is enter\n  if not (v = 1 or (v, me) <= (2, (v + 1) * 2)) and (v) < 3 then done\n  done\ncall unlock\n  turn := 0 this is leave\n  done\n--\nread\n\
 == good\nalgorithm a for 2 processes\npromises exclusion\nshared flag[procs] up to 1\nshared turn\ncall lock\n  v := turn this is enter\n  if v = 1then done\n  done\ncall unlock\n  turn := 0 this is leave\n  done\n--\nread\n\
@@ -109,14 +110,4 @@ pub fn put_reading(alloc: Global, given: &[u8], text: &mut String) -> Result<(),
         Err(fault) => writeln!(text, "{fault}")?,
     }
     Ok(())
-}
-
-#[test]
-fn each_fault_has_its_line(rt: HostRuntime) -> Result<(), Fail> {
-    compare_cases(rt.alloc(), Kind::Reading, BAD)
-}
-
-#[test]
-fn good_texts_are_read(rt: HostRuntime) -> Result<(), Fail> {
-    compare_cases(rt.alloc(), Kind::Reading, GOOD)
 }

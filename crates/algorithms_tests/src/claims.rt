@@ -1,11 +1,9 @@
 //! Conditions that never hold, against the numbers of the reference program's second version, but where a condition holds from a start
 //! on: that is found with the step after it.
 
-use crate::cases::{Kind, compare_cases};
-use std::test::Fail;
-
 /// A claim that is kept makes no state of a search: it is of the state alone.
-const SEARCHES: &str = "\
+pub const SEARCHES: &str = "\
+search with claims\n\
 == kept_ticket 2 1 0\n--\n56 states\n\
 == kept_ticket 3 1 0\n--\n384 states\n\
 == kept_ticket 2 1 1\n--\n8 moves\n\
@@ -20,7 +18,8 @@ const SEARCHES: &str = "\
 
 /// A step or a crash after which a condition holds, or before which it held, reports so before its deeds. The verdict is by the first
 /// such step.
-const REPORTS: &str = "\
+pub const REPORTS: &str = "\
+report of broken claims\n\
 == claimed_ticket
 rme 1 procs 2 limit 1 cap 1
 lock 0
@@ -78,7 +77,8 @@ verdict against 11 at 4
 ";
 
 /// What is wrong, a text, and where: the line, and the number of its fault.
-const BAD: &str = "\
+pub const BAD: &str = "\
+read faults of claims\n\
 == no condition\nalgorithm a for 2 processes\npromises exclusion\nconstant nil = procs\nshared w up to nil starts nil\nshared a[procs]\nnever\ncall lock\n  v := w\nhere:\n  w := me this is enter\n  done\ncall unlock\nhere:\n  v := a[0]\nonly:\n  w := nil this is leave\n  done\n--\nline 6: fault 4\n\
 == a value alone\nalgorithm a for 2 processes\npromises exclusion\nconstant nil = procs\nshared w up to nil starts nil\nshared a[procs]\nnever w\ncall lock\n  v := w\nhere:\n  w := me this is enter\n  done\ncall unlock\nhere:\n  v := a[0]\nonly:\n  w := nil this is leave\n  done\n--\nline 6: fault 4\n\
 == no colon\nalgorithm a for 2 processes\npromises exclusion\nconstant nil = procs\nshared w up to nil starts nil\nshared a[procs]\nnever for p p is inside\ncall lock\n  v := w\nhere:\n  w := me this is enter\n  done\ncall unlock\nhere:\n  v := a[0]\nonly:\n  w := nil this is leave\n  done\n--\nline 6: fault 4\n\
@@ -109,7 +109,8 @@ const BAD: &str = "\
 ";
 
 /// `never`, the phases and `at` are no words of the format.
-const GOOD: &str = "\
+pub const GOOD: &str = "\
+read claims\n\
 == one word\nalgorithm a for 2 processes\npromises exclusion\nconstant nil = procs\nshared w up to nil starts nil\nshared a[procs]\nnever w > nil\ncall lock\n  v := w\nhere:\n  w := me this is enter\n  done\ncall unlock\nhere:\n  v := a[0]\nonly:\n  w := nil this is leave\n  done\n--\nread\n\
 == two processes\nalgorithm a for 2 processes\npromises exclusion\nconstant nil = procs\nshared w up to nil starts nil\nshared a[procs]\nnever for p, q: p is inside and a[q] = 1 and w = p\ncall lock\n  v := w\nhere:\n  w := me this is enter\n  done\ncall unlock\nhere:\n  v := a[0]\nonly:\n  w := nil this is leave\n  done\n--\nread\n\
 == a label\nalgorithm a for 2 processes\npromises exclusion\nconstant nil = procs\nshared w up to nil starts nil\nshared a[procs]\nnever for p: p at only\ncall lock\n  v := w\nhere:\n  w := me this is enter\n  done\ncall unlock\nhere:\n  v := a[0]\nonly:\n  w := nil this is leave\n  done\n--\nread\n\
@@ -120,23 +121,3 @@ const GOOD: &str = "\
 == 32 names\nalgorithm a for 2 processes\npromises exclusion\nconstant nil = procs\nshared w up to nil starts nil\nshared a[procs]\nnever w = 0 or w = 0 or w = 0 or w = 0 or w = 0 or w = 0 or w = 0 or w = 0 or w = 0 or w = 0 or w = 0 or w = 0 or w = 0 or w = 0 or w = 0 or w = 0 or w = 0 or w = 0 or w = 0 or w = 0 or w = 0 or w = 0 or w = 0 or w = 0 or w = 0 or w = 0 or w = 0 or w = 0 or w = 0 or w = 0 or w = 0 or w = 0\ncall lock\n  v := w\nhere:\n  w := me this is enter\n  done\ncall unlock\nhere:\n  v := a[0]\nonly:\n  w := nil this is leave\n  done\n--\nread\n\
 == as a name\nalgorithm a for 2 processes\npromises exclusion\nconstant nil = procs\nshared w up to nil starts nil\nshared a[procs]\nshared never\nnever never = 1\ncall lock\n  v := w\nhere:\n  w := me this is enter\n  done\ncall unlock\nhere:\n  v := a[0]\nonly:\n  w := nil this is leave\n  done\n--\nread\n\
 ";
-
-#[test]
-fn searches_with_claims(rt: HostRuntime) -> Result<(), Fail> {
-    compare_cases(rt.alloc(), Kind::Search, SEARCHES)
-}
-
-#[test]
-fn a_broken_claim_is_reported(rt: HostRuntime) -> Result<(), Fail> {
-    compare_cases(rt.alloc(), Kind::Report, REPORTS)
-}
-
-#[test]
-fn claims_of_another_form_are_refused(rt: HostRuntime) -> Result<(), Fail> {
-    compare_cases(rt.alloc(), Kind::Reading, BAD)
-}
-
-#[test]
-fn claims_are_read(rt: HostRuntime) -> Result<(), Fail> {
-    compare_cases(rt.alloc(), Kind::Reading, GOOD)
-}

@@ -1,10 +1,8 @@
 //! Constants: names for values.
 
-use crate::cases::{Kind, compare_cases};
-use std::test::Fail;
-
 /// Where a constant is named, its value is spelled.
-const SPELLED: &str = "== named
+pub const SPELLED: &str = "spell constants
+== named
 --
 Access(AccessLine { word: WordOf { declaration: 0, index: None }, action: Load { name: 0 }, may_withdraw: false })
 Local(Branch { condition: Compare(Equal, Private(0), Joined(Sum, Me, Number(1))), otherwise: 3 })
@@ -25,13 +23,15 @@ first values Some(FirstValues { starts: [None] })
 ";
 
 /// As `recoverable_test_and_set`, which has no constants.
-const SEARCHES: &str = "\
+pub const SEARCHES: &str = "\
+search with constants\n\
 == named 2 1 0\n--\n21 states\n\
 == named 2 1 1\n--\n64 states\n\
 ";
 
 /// What is wrong, a text, and where: the line, and the number of its fault.
-const BAD: &str = "\
+pub const BAD: &str = "\
+read faults of constants\n\
 == a name in the value\nalgorithm a for 2 processes\npromises exclusion\nconstant nil = procs\nshared w up to nil\nconstant x = procs + y\ncall lock\n  w := nil this is enter\n  done\ncall unlock\n  w := 0 this is leave\n  done\n--\nline 5: fault 4\n\
 == me in the value\nalgorithm a for 2 processes\npromises exclusion\nconstant nil = procs\nshared w up to nil\nconstant x = me\ncall lock\n  w := nil this is enter\n  done\ncall unlock\n  w := 0 this is leave\n  done\n--\nline 5: fault 4\n\
 == no value\nalgorithm a for 2 processes\npromises exclusion\nconstant nil = procs\nshared w up to nil\nconstant x =\ncall lock\n  w := nil this is enter\n  done\ncall unlock\n  w := 0 this is leave\n  done\n--\nline 5: fault 4\n\
@@ -57,28 +57,9 @@ const BAD: &str = "\
 ";
 
 /// `constant` is no word of the format, and a value may have sixteen numbers.
-const GOOD: &str = "\
+pub const GOOD: &str = "\
+read constants\n\
 == names\nalgorithm a for 2 processes\npromises exclusion\nconstant constant = 1\nshared w up to constant\ncall lock\n  w := constant this is enter\n  done\ncall unlock\n  w := constant - 1 this is leave\n  done\n--\nread\n\
 == a private name\nalgorithm a for 2 processes\npromises exclusion\nshared w\ncall lock\n  constant := w\n  w := constant this is enter\n  done\ncall unlock\n  w := 0 this is leave\n  done\n--\nread\n\
 == sixteen numbers\nalgorithm a for 2 processes\npromises exclusion\nconstant four = procs + limit + procs + 1\nconstant sixteen = four + four + four + four\nshared w up to max(sixteen, 2)\nprivate kept\ncall lock\n  w := sixteen mod 2 this is enter\n  if kept < sixteen then kept := sixteen\n  done\ncall unlock\nsixteen:\n  w := 0 this is leave\n  done\n--\nread\n\
 ";
-
-#[test]
-fn constants_stand_for_their_values(rt: HostRuntime) -> Result<(), Fail> {
-    compare_cases(rt.alloc(), Kind::Spelling, SPELLED)
-}
-
-#[test]
-fn searches_with_constants(rt: HostRuntime) -> Result<(), Fail> {
-    compare_cases(rt.alloc(), Kind::Search, SEARCHES)
-}
-
-#[test]
-fn each_fault_of_a_constant_has_its_line(rt: HostRuntime) -> Result<(), Fail> {
-    compare_cases(rt.alloc(), Kind::Reading, BAD)
-}
-
-#[test]
-fn constants_are_read(rt: HostRuntime) -> Result<(), Fail> {
-    compare_cases(rt.alloc(), Kind::Reading, GOOD)
-}

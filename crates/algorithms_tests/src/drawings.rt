@@ -3,14 +3,12 @@
 pub mod bakeries;
 pub mod others;
 
-use crate::cases::{Kind, compare_cases};
-use crate::drawings::{bakeries as bakery_drawings, others as other_drawings};
 use crate::support::{put_fault, put_page, text_named};
 use algorithm_lab::AlgorithmReplayFault;
 use algorithm_texts::read_algorithm;
 use diagram::{Style, draw_algorithm};
 use schedule::{Page, Verdict, read_schedule};
-use std::alloc::{AllocError, Global};
+use std::alloc::Global;
 use std::fmt::Write;
 use std::test::Fail;
 
@@ -28,7 +26,8 @@ unlock 1
 ";
 
 /// A run that ends with its schedule.
-pub const ALONE: &str = "== peterson
+pub const ALONE: &str = "draw a run
+== peterson
 rme 1 procs 2 limit 1 cap 1
 lock 0
 step 0 3
@@ -50,7 +49,8 @@ ended: fine
 ";
 
 /// Runs that end with a line that is refused.
-const REFUSED: &str = "== peterson
+pub const REFUSED: &str = "draw up to a refusal
+== peterson
 rme 1 procs 2 limit 1 cap 1
 lock 0
 step 0
@@ -80,28 +80,7 @@ fn draw_run(
     Ok(draw_algorithm(alloc, algorithm, &schedule, style, page))
 }
 
-/// Writes how a run ends.
-fn put_ending(
-    ended: Result<Verdict, AlgorithmReplayFault>,
-    text: &mut String,
-) -> Result<(), AllocError> {
-    match ended {
-        Ok(Verdict::Fine) => text.push_str("ended: fine\n"),
-        Ok(Verdict::Against { at, .. }) => writeln!(text, "ended: against at {at}"),
-        Err(fault) => put_fault(fault, text),
-    }
-}
-
-/// The checksum FNV-1a of 64 bits.
-fn checksum(bytes: &[u8]) -> u64 {
-    let mut sum = 0xcbf2_9ce4_8422_2325_u64;
-    for byte in bytes {
-        sum = (sum ^ u64::from(*byte)).wrapping_mul(0x0100_0000_01b3);
-    }
-    sum
-}
-
-/// Writes a drawing as text, and answers how it ends.
+/// Writes a drawing as text and how it ends, and answers that.
 fn put_text(
     alloc: Global,
     name: &str,
@@ -113,7 +92,11 @@ fn put_text(
     let written = put_page(page.as_slice(), text);
     drop(page);
     written?;
-    put_ending(ended, text)?;
+    match ended {
+        Ok(Verdict::Fine) => text.push_str("ended: fine\n")?,
+        Ok(Verdict::Against { at, .. }) => writeln!(text, "ended: against at {at}")?,
+        Err(fault) => put_fault(fault, text)?,
+    }
     Ok(ended)
 }
 
@@ -129,25 +112,20 @@ pub fn put_drawing(
 }
 
 /// A drawing of the schedule, as a case: the text. It is drawn as text and as SVG, which has to end in the same way. Of the SVG
-/// the checksum is written.
+/// the checksum FNV-1a of 64 bits is written.
 pub fn put_picture(alloc: Global, words: &[&str; 8], text: &mut String) -> Result<(), Fail> {
     let ended = put_text(alloc, words[0], SCHEDULE, text)?;
     let mut page = Page::new(alloc);
     let again = draw_run(alloc, words[0], SCHEDULE, Style::Svg, &mut page)?;
-    let sum = checksum(page.as_slice());
+    let mut sum = 0xcbf2_9ce4_8422_2325_u64;
+    for byte in page.as_slice() {
+        sum = (sum ^ u64::from(*byte)).wrapping_mul(0x0100_0000_01b3);
+    }
     drop(page);
     if again == ended {
         writeln!(text, "picture {sum}")?;
     }
     Ok(())
-}
-
-#[test]
-fn locks_are_drawn(rt: HostRuntime) -> Result<(), Fail> {
-    compare_cases(rt.alloc(), Kind::Picture, bakery_drawings::BAKERIES)?;
-    compare_cases(rt.alloc(), Kind::Picture, other_drawings::OTHERS)?;
-    compare_cases(rt.alloc(), Kind::Drawing, ALONE)?;
-    compare_cases(rt.alloc(), Kind::Drawing, REFUSED)
 }
 
 /// One is inside, and another waits, when all crash.

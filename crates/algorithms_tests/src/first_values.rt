@@ -1,13 +1,13 @@
 //! First values of words, against the numbers of the reference program's second version.
 
-use crate::cases::{Kind, compare_cases};
 use crate::texts::swaps;
 use algorithm_texts::read_algorithm;
 use algorithms::{Address, AlgorithmWorld};
 use std::test::Fail;
 
 /// What a text with first values spells.
-const SPELLED: &str = "== seats
+pub const SPELLED: &str = "spell first values
+== seats
 --
 Access(AccessLine { word: WordOf { declaration: 0, index: Some(Me) }, action: Load { name: 0 }, may_withdraw: false })
 Access(AccessLine { word: WordOf { declaration: 0, index: Some(Number(0)) }, action: Swap { name: 0, value: Number(0), guard: Some(Compare(Equal, Private(0), Procs)), until: Some(Compare(Equal, Private(0), Procs)) }, may_withdraw: false })
@@ -26,7 +26,8 @@ first values Some(FirstValues { starts: [Some(Procs)] })
 ";
 
 /// The numbers of `mcs`, in which 0 is nobody, and a lock that there is for one and two processes.
-const SEARCHES: &str = "\
+pub const SEARCHES: &str = "\
+search from first values\n\
 == mcs_nil 2 1 0\n--\n89 states\n\
 == mcs_nil 2 1 1\n--\n644 states\n\
 == mcs_nil 3 1 0\n--\n2361 states\n\
@@ -42,7 +43,8 @@ const SEARCHES: &str = "\
 == narrow 2 1 0\n--\n12 states\n\
 ";
 
-const RUNS: &str = "\
+pub const RUNS: &str = "\
+run from first values\n\
 == seats 2 1\n\
 lock 0 -> started\n\
 step 0 -> 8 seat[0] 2\n\
@@ -68,7 +70,8 @@ words 0 0 1\n\
 ";
 
 /// What is wrong, a text, and where: the line, and the number of its fault.
-const BAD: &str = "\
+pub const BAD: &str = "\
+read faults of first values\n\
 == owner of one word\nalgorithm a for 2 processes\npromises exclusion\nconstant nil = procs\nshared x starts owner\nshared w\ncall lock\n  w := 1 this is enter\n  done\ncall unlock\n  w := 0 this is leave\n  done\n--\nline 4: fault 4\n\
 == me of an array\nalgorithm a for 2 processes\npromises exclusion\nconstant nil = procs\nshared x[procs] starts me\nshared w\ncall lock\n  w := 1 this is enter\n  done\ncall unlock\n  w := 0 this is leave\n  done\n--\nline 4: fault 4\n\
 == owner in a bound\nalgorithm a for 2 processes\npromises exclusion\nconstant nil = procs\nshared x[procs] up to owner\nshared w\ncall lock\n  w := 1 this is enter\n  done\ncall unlock\n  w := 0 this is leave\n  done\n--\nline 4: fault 4\n\
@@ -86,17 +89,13 @@ const BAD: &str = "\
 ";
 
 /// `starts` is no word of the format.
-const GOOD: &str = "\
+pub const GOOD: &str = "\
+read first values\n\
 == owner\nalgorithm a for 2 processes\npromises exclusion\nconstant owner = 7\nshared x[procs] up to 9 starts 2 * owner + min(owner, 1)\ncall lock\n  x[me] := owner this is enter\n  done\ncall unlock\n  x[me] := 0 this is leave\n  done\n--\nread\n\
 == a shared word\nalgorithm a for 2 processes\npromises exclusion\nshared starts up to 3 starts 2\ncall lock\n  v := starts\n  starts := 1 this is enter\n  done\ncall unlock\n  starts := 0 this is leave\n  done\n--\nread\n\
 == a constant\nalgorithm a for 2 processes\npromises exclusion\nconstant starts = limit\nshared w[procs] starts starts\nprivate kept\ncall lock\n  w[me] := starts + kept this is enter\n  done\ncall unlock\n  w[me] := 0 this is leave\n  done\n--\nread\n\
 == a private name\nalgorithm a for 2 processes\npromises exclusion\nshared w\ncall lock\n  starts := w\n  w := starts this is enter\n  done\ncall unlock\n  w := 0 this is leave\n  done\n--\nread\n\
 ";
-
-#[test]
-fn first_values_are_spelled(rt: HostRuntime) -> Result<(), Fail> {
-    compare_cases(rt.alloc(), Kind::Spelling, SPELLED)
-}
 
 /// A word of the first declaration.
 fn word(world: &AlgorithmWorld, index: usize) -> Option<u64> {
@@ -123,24 +122,4 @@ fn a_world_begins_anew_with_its_first_values(rt: HostRuntime) -> Result<(), Fail
     assert!(rt; beside == (Some(2), Some(2), Some(0)));
     assert!(rt; anew == (Some(2), Some(2), Some(0)));
     Ok(())
-}
-
-#[test]
-fn searches_from_first_values(rt: HostRuntime) -> Result<(), Fail> {
-    compare_cases(rt.alloc(), Kind::Search, SEARCHES)
-}
-
-#[test]
-fn runs_from_first_values(rt: HostRuntime) -> Result<(), Fail> {
-    compare_cases(rt.alloc(), Kind::Run, RUNS)
-}
-
-#[test]
-fn each_fault_of_a_first_value_has_its_line(rt: HostRuntime) -> Result<(), Fail> {
-    compare_cases(rt.alloc(), Kind::Reading, BAD)
-}
-
-#[test]
-fn first_values_are_read(rt: HostRuntime) -> Result<(), Fail> {
-    compare_cases(rt.alloc(), Kind::Reading, GOOD)
 }

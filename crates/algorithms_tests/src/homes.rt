@@ -1,13 +1,16 @@
 //! The homes of words, against the numbers of the reference program's second version.
 
-use crate::cases::{Kind, compare_cases};
-use crate::texts::homes;
+use crate::cases::words;
+use crate::support::{number, text_named};
 use algorithm_texts::read_algorithm;
 use algorithms::{Address, Algorithm};
+use std::alloc::{AllocError, Global};
+use std::fmt::Write;
 use std::test::Fail;
 
 /// What a text with homes spells.
-const SPELLED: &str = "== homes
+pub const SPELLED: &str = "spell homes
+== homes
 --
 Access(AccessLine { word: WordOf { declaration: 0, index: None }, action: Swap { name: 0, value: Number(1), guard: None, until: Some(Compare(Equal, Private(0), Number(0))) }, may_withdraw: false })
 Local(Note(Enter))
@@ -25,7 +28,8 @@ first values Some(FirstValues { starts: [None, None, Some(Number(1)), None, None
 ";
 
 /// The numbers of texts of which some words have homes.
-const SEARCHES: &str = "\
+pub const SEARCHES: &str = "\
+search with homes\n\
 == yang_anderson 2 4 0\n--\n920 states\n\
 == yang_anderson 2 4 1\n--\n3268 states\n\
 == golab_ramaraju 2 4 0\n--\n1818 states\n\
@@ -33,7 +37,8 @@ const SEARCHES: &str = "\
 ";
 
 /// What is wrong, a text, and where: the line, and the number of its fault.
-const BAD: &str = "\
+pub const BAD: &str = "\
+read faults of homes\n\
 == owner of one word\nalgorithm a for 2 processes\npromises exclusion\nconstant nil = procs\nshared x at owner\nshared w\ncall lock\n  w := 1 this is enter\n  done\ncall unlock\n  w := 0 this is leave\n  done\n--\nline 4: fault 4\n\
 == me of an array\nalgorithm a for 2 processes\npromises exclusion\nconstant nil = procs\nshared x[procs] at me\nshared w\ncall lock\n  w := 1 this is enter\n  done\ncall unlock\n  w := 0 this is leave\n  done\n--\nline 4: fault 4\n\
 == me in the home\nalgorithm a for 2 processes\npromises exclusion\nconstant nil = procs\nshared x at me\nshared w\ncall lock\n  w := 1 this is enter\n  done\ncall unlock\n  w := 0 this is leave\n  done\n--\nline 4: fault 4\n\
@@ -53,47 +58,58 @@ const BAD: &str = "\
 ";
 
 /// `at` is no word of the format.
-const GOOD: &str = "\
+pub const GOOD: &str = "\
+read homes\n\
 == a shared word\nalgorithm a for 2 processes\npromises exclusion\nshared at[procs] up to 3 at owner\ncall lock\n  v := at[me]\n  at[me] := v this is enter\n  done\ncall unlock\n  at[me] := 0 this is leave\n  done\n--\nread\n\
 == a constant\nalgorithm a for 2 processes\npromises exclusion\nconstant at = 1\nshared w[procs] at at\ncall lock\n  w[me] := at this is enter\n  done\ncall unlock\n  w[me] := 0 this is leave\n  done\n--\nread\n\
 == a private name\nalgorithm a for 2 processes\npromises exclusion\nshared w up to 9 starts 1 at 64\nprivate at\ncall lock\n  at := w\n  w := at this is enter\n  done\ncall unlock\n  w := at this is leave\n  done\n--\nread\n\
 ";
 
-/// The home of a word in worlds of 3 processes and this limit.
-fn home(algorithm: &Algorithm, declaration: usize, index: u64, limit: u64) -> Option<u64> {
-    let word = Address { declaration, index };
-    algorithm.home_of(word, 3, limit)
-}
+/// In worlds of 3 processes: a declaration, an index, a limit, and where that word lives.
+pub const HOMES: &str = "\
+homes of words\n\
+== homes 3\n\
+0 0 2 -> 1\n\
+1 2 2 -> 2\n\
+2 2 2 -> 1\n\
+2 0 2 -> nowhere\n\
+3 0 2 -> nowhere\n\
+4 0 3 -> nowhere\n\
+4 0 2 -> 2\n\
+";
 
-#[test]
-fn words_live_at_their_homes(rt: HostRuntime) -> Result<(), Fail> {
-    let read = read_algorithm(rt.alloc(), homes::HOMES)?;
-    let all = &read.algorithm;
-    let processes = (home(all, 0, 0, 2), home(all, 1, 2, 2), home(all, 2, 2, 2));
-    let nowhere = (home(all, 2, 0, 2), home(all, 3, 0, 2), home(all, 4, 0, 3));
-    let limit = home(all, 4, 0, 2);
-    assert!(rt; processes == (Some(1), Some(2), Some(1)));
-    assert!(rt; nowhere == (None, None, None));
-    assert!(rt; limit == Some(2));
+/// Writes where each of the words lives that the lines name.
+fn put_all_homes(
+    algorithm: &Algorithm,
+    procs: u64,
+    lines: &str,
+    text: &mut String,
+) -> Result<(), AllocError> {
+    for line in lines.lines() {
+        if let Some((asked, _)) = line.split_once(" -> ") {
+            let [declaration, index, limit, ..] = words(asked);
+            let word = Address {
+                declaration: number(declaration) as usize,
+                index: number(index),
+            };
+            match algorithm.home_of(word, procs, number(limit)) {
+                Some(home) => writeln!(text, "{asked} -> {home}")?,
+                None => writeln!(text, "{asked} -> nowhere")?,
+            }
+        }
+    }
     Ok(())
 }
 
-#[test]
-fn homes_are_spelled(rt: HostRuntime) -> Result<(), Fail> {
-    compare_cases(rt.alloc(), Kind::Spelling, SPELLED)
-}
-
-#[test]
-fn searches_of_texts_with_homes(rt: HostRuntime) -> Result<(), Fail> {
-    compare_cases(rt.alloc(), Kind::Search, SEARCHES)
-}
-
-#[test]
-fn each_fault_of_a_home_has_its_line(rt: HostRuntime) -> Result<(), Fail> {
-    compare_cases(rt.alloc(), Kind::Reading, BAD)
-}
-
-#[test]
-fn homes_are_read(rt: HostRuntime) -> Result<(), Fail> {
-    compare_cases(rt.alloc(), Kind::Reading, GOOD)
+/// The homes of words, as a case: the text, and the number of processes.
+pub fn put_homes(
+    alloc: Global,
+    words: &[&str; 8],
+    lines: &str,
+    text: &mut String,
+) -> Result<(), Fail> {
+    let algorithm = read_algorithm(alloc, text_named(words[0]))?;
+    let written = put_all_homes(&algorithm.algorithm, number(words[1]), lines, text);
+    drop(algorithm);
+    Ok(written?)
 }

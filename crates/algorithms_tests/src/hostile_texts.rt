@@ -1,16 +1,14 @@
 //! Texts that ask for much: they are refused, or read in bounded time.
 
 use crate::bad_texts;
-use crate::cases::{Kind, compare_cases};
 use crate::support::number;
-use algorithm_texts::read_algorithm;
-use algorithms::AlgorithmFault;
 use std::alloc::{AllocError, Global};
 use std::test::Fail;
 
 /// Texts with a part that stands there many times, and where their reading fails: first it says how often, what is repeated
 /// stands after `@`, and a line feed ends the text.
-const HOSTILE: &str = "\
+pub const HOSTILE: &str = "\
+repeat in texts that are refused\n\
 == 100000 10 MB in a line\n@xxxxxxxxxxxxxxxxxxxxxxxxxxxxxxxxxxxxxxxxxxxxxxxxxxxxxxxxxxxxxxxxxxxxxxxxxxxxxxxxxxxxxxxxxxxxxxxxxxxx--\nline 1: fault 16\n\
 == 1000000 10 MB of empty lines\n@\n\n\n\n\n\n\n\n\n\n--\nline 4097: fault 16\n\
 == 5000 comments alone\n@#\n--\nline 4097: fault 16\n\
@@ -25,8 +23,8 @@ const HOSTILE: &str = "\
 ";
 
 /// A long text that is read. What stands after a second `@` comes once, at its end.
-const LONG: &str =
-    "== 1000 a long text\nalgorithm a for 2 processes\npromises exclusion\nshared x\ncall unlock\nx := 0 this is leave\ndone\ncall lock\n@v := x\n@this is enter\ndone--\nread\n";
+pub const LONG: &str =
+    "repeat in a long text\n== 1000 a long text\nalgorithm a for 2 processes\npromises exclusion\nshared x\ncall unlock\nx := 0 this is leave\ndone\ncall lock\n@v := x\n@this is enter\ndone--\nread\n";
 
 /// Writes the text that a case gives, with its repeated part.
 fn put_whole(times: u64, given: &str, whole: &mut String) -> Result<(), AllocError> {
@@ -50,19 +48,4 @@ pub fn put_reading(
     let mut whole = String::new(alloc);
     put_whole(number(words[0]), given, &mut whole)?;
     bad_texts::put_reading(alloc, whole.as_bytes(), text)
-}
-
-#[test]
-fn hostile_texts_are_refused(rt: HostRuntime) -> Result<(), Fail> {
-    let high = read_algorithm(rt.alloc(), b"\xff\xff\xff\n").err();
-    assert!(rt;
-        high == Some(AlgorithmFault::At { line: 1, number: 2 }),
-        "no ASCII"
-    );
-    compare_cases(rt.alloc(), Kind::Repeating, HOSTILE)
-}
-
-#[test]
-fn long_texts_are_read(rt: HostRuntime) -> Result<(), Fail> {
-    compare_cases(rt.alloc(), Kind::Repeating, LONG)
 }

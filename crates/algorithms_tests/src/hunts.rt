@@ -1,6 +1,5 @@
 //! Hunts on algorithms. What the hunt of a seed finds was found with the reference program and the drawing rule.
 
-use crate::cases::{Kind, compare_cases};
 use crate::support::{number, put_schedule, text_named};
 use algorithm_explorer::{AlgorithmHuntFault, Unwatched, hunt_algorithm_schedule};
 use algorithm_texts::read_algorithm;
@@ -11,7 +10,8 @@ use std::test::Fail;
 
 /// What hunts find: after the text the number of processes, the limit, the seed, the rounds and their steps. Where it ends with
 /// `lines`, they are only counted.
-const HUNTS: &str = "== one_word 2 1 2 20 1000
+pub const HUNTS: &str = "hunt by a seed
+== one_word 2 1 2 20 1000
 --
 rme 1 procs 2 limit 1 cap 1
 crash 1
@@ -86,20 +86,7 @@ bad steps
 the algorithm is not for this number of processes
 ";
 
-/// Writes what is found, or how many lines it has.
-fn put_found(
-    alloc: Global,
-    found: &Schedule,
-    counted: bool,
-    text: &mut String,
-) -> Result<(), Fail> {
-    if counted {
-        return Ok(writeln!(text, "{} lines", found.lines().len())?);
-    }
-    put_schedule(alloc, found, text)
-}
-
-/// Writes what a hunt answers.
+/// Writes what a hunt answers: a schedule, or how many lines it has.
 fn put_answer(
     alloc: Global,
     found: &Result<Option<Schedule>, AlgorithmHuntFault>,
@@ -107,7 +94,8 @@ fn put_answer(
     text: &mut String,
 ) -> Result<(), Fail> {
     match found {
-        Ok(Some(found)) => put_found(alloc, found, counted, text),
+        Ok(Some(found)) if counted => Ok(writeln!(text, "{} lines", found.lines().len())?),
+        Ok(Some(found)) => put_schedule(alloc, found, text),
         Ok(None) => Ok(text.push_str("none\n")?),
         Err(fault) => Ok(writeln!(text, "{fault}")?),
     }
@@ -128,11 +116,6 @@ pub fn put_hunt(alloc: Global, words: &[&str; 8], text: &mut String) -> Result<(
         &mut Unwatched,
     );
     put_answer(alloc, &found, *form == "lines", text)
-}
-
-#[test]
-fn hunts_find(rt: HostRuntime) -> Result<(), Fail> {
-    compare_cases(rt.alloc(), Kind::Hunt, HUNTS)
 }
 
 #[test]

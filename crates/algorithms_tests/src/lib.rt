@@ -64,6 +64,8 @@ mod stuck;
 mod support;
 #[cfg(test)]
 mod swaps;
+#[cfg(test)]
+mod tables;
 pub mod texts;
 #[cfg(test)]
 mod writer;

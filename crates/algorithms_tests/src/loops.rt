@@ -1,10 +1,8 @@
 //! Loops over numbers, and rounds without an access, against the numbers of the reference program's second version.
 
-use crate::cases::{Kind, compare_cases};
-use std::test::Fail;
-
 /// What a text with such a loop spells.
-const SPELLED: &str = "== filter
+pub const SPELLED: &str = "spell loops over numbers
+== filter
 --
 Local(First { name: 0, members: Up(Number(1), Joined(Difference, Procs, Number(1))), after: 11 })
 Access(AccessLine { word: WordOf { declaration: 0, index: Some(Me) }, action: Store { value: Private(0) }, may_withdraw: false })
@@ -31,13 +29,15 @@ Promises { reentry: false, order: false, exit: None, recovery: None, doorway: No
 first values None
 ";
 
-const SEARCHES: &str = "\
+pub const SEARCHES: &str = "\
+search with loops over numbers\n\
 == filter 2 4 0\n--\n58 states\n\
 == filter 3 4 0\n--\n2947 states\n\
 == tally 2 4 0\n--\n8 moves\n\
 ";
 
-const RUNS: &str = "\
+pub const RUNS: &str = "\
+run loops over numbers\n\
 == stairs 2 2\n\
 lock 0 -> started\n\
 step 0 -> 10 step[2] = 4\n\
@@ -113,7 +113,8 @@ words 0 0\n\
 ";
 
 /// What is wrong, a text, and where: the line, and the number of its fault.
-const BAD: &str = "\
+pub const BAD: &str = "\
+read faults of loops over numbers\n\
 == a name in the first end\nalgorithm a for 2 processes\npromises exclusion\nshared w\nprivate kept\ncall lock\n  for j from kept to 3\n    w := j\n  end\n  w := 1 this is enter\n  done\ncall unlock\n  w := 0 this is leave\n  done\n--\nline 6: fault 4\n\
 == a name in the second end\nalgorithm a for 2 processes\npromises exclusion\nshared w\nprivate kept\ncall lock\n  for j from 1 to kept\n    w := j\n  end\n  w := 1 this is enter\n  done\ncall unlock\n  w := 0 this is leave\n  done\n--\nline 6: fault 4\n\
 == a new name in an end\nalgorithm a for 2 processes\npromises exclusion\nshared w\nprivate kept\ncall lock\n  for j from y to 3\n    w := j\n  end\n  w := 1 this is enter\n  done\ncall unlock\n  w := 0 this is leave\n  done\n--\nline 6: fault 4\n\
@@ -143,7 +144,8 @@ const BAD: &str = "\
 ";
 
 /// `from` and `down` are no words of the format.
-const GOOD: &str = "\
+pub const GOOD: &str = "\
+read loops over numbers\n\
 == names\nalgorithm a for 2 processes\npromises exclusion\nconstant from = 3\nshared down up to from\ncall lock\n  for j from from down to 1\n    down := j\n  end\n  down := 1 this is enter\n  done\ncall unlock\n  down := 0 this is leave\n  done\n--\nread\n\
 == a round wherever there are two processes\nalgorithm a for 2 processes\npromises exclusion\nshared w\ncall lock\n  for j from procs - 1 down to 1\n    v := w\n  end\n  w := v this is enter\n  done\ncall unlock\n  w := 0 this is leave\n  done\n--\nread\n\
 == all parts of a value\nalgorithm a for 2 processes\npromises exclusion\nshared w\ncall lock\n  for j from max(me, 1) * 2 to (limit + procs) mod 7\n    w := j\n  end\n  w := 1 this is enter\n  done\ncall unlock\n  w := 0 this is leave\n  done\n--\nread\n\
@@ -153,28 +155,3 @@ const GOOD: &str = "\
 == a ring with an access that leaves rounds without one\nalgorithm a for 2 processes\npromises exclusion\nshared w\ncall lock\nagain:\n  v := w\n  for j in all\n    if v = j then goto again\n  end\n  w := 1 this is enter\n  done\ncall unlock\n  w := 0 this is leave\n  done\n--\nread\n\
 == rounds of no lines\nalgorithm a for 2 processes\npromises exclusion\nshared w\ncall lock\n  for j in all\n  end\n  w := 1 this is enter\n  done\ncall unlock\n  w := 0 this is leave\n  done\n--\nread\n\
 ";
-
-#[test]
-fn loops_over_numbers_are_spelled(rt: HostRuntime) -> Result<(), Fail> {
-    compare_cases(rt.alloc(), Kind::Spelling, SPELLED)
-}
-
-#[test]
-fn searches_of_texts_with_loops_over_numbers(rt: HostRuntime) -> Result<(), Fail> {
-    compare_cases(rt.alloc(), Kind::Search, SEARCHES)
-}
-
-#[test]
-fn runs_of_loops_over_numbers(rt: HostRuntime) -> Result<(), Fail> {
-    compare_cases(rt.alloc(), Kind::Run, RUNS)
-}
-
-#[test]
-fn each_fault_of_a_loop_over_numbers_has_its_line(rt: HostRuntime) -> Result<(), Fail> {
-    compare_cases(rt.alloc(), Kind::Reading, BAD)
-}
-
-#[test]
-fn loops_over_numbers_are_read(rt: HostRuntime) -> Result<(), Fail> {
-    compare_cases(rt.alloc(), Kind::Reading, GOOD)
-}

@@ -1,10 +1,9 @@
 //! Calls while one request for memory after another is refused.
 
-use crate::cases::{Kind, case_of};
 use crate::drawings::ALONE;
 use crate::reports::others::ONE_WORD;
 use crate::schedules::ALONE_BY_STEPS;
-use crate::sinks::put_out;
+use crate::sinks::{Kind, put_out, schedule_of};
 use crate::support::text_named;
 use algorithm_explorer::{
     AlgorithmHuntFault, Unwatched, hunt_algorithm_schedule, shrink_algorithm_schedule,
@@ -15,7 +14,6 @@ use algorithms::InitializedAlgorithm;
 use schedule::{Schedule, ToWriter, read_schedule};
 use std::alloc::Global;
 use std::io::Cursor;
-use std::process::Abort;
 use std::test::Fail;
 use test_support::memory_limit::ScarceMemory;
 
@@ -100,15 +98,7 @@ fn called(
     }
 }
 
-/// What stands before the first zero.
-fn before_zeros(bytes: &[u8]) -> &[u8] {
-    match bytes.iter().position(|byte| *byte == 0) {
-        Some(end) => &bytes[..end],
-        None => bytes,
-    }
-}
-
-/// Whether this may be written where memory was refused: nothing, or of a drawing a beginning.
+/// Whether this is what may be written where memory was refused: nothing, or of a drawing a beginning.
 fn may_be_written(kind: Kind, written: &[u8], whole: &[u8]) -> bool {
     let is_beginning = written != whole && whole.starts_with(written);
     written.is_empty() || matches!(kind, Kind::Drawing) && is_beginning
@@ -131,7 +121,8 @@ fn refusals(
         };
         let mut printed = [0u8; 1024];
         let came = called(alloc, kind, algorithm, schedule, &mut printed);
-        let written = before_zeros(&printed);
+        let end = printed.iter().position(|byte| *byte == 0).unwrap_or(1024);
+        let written = &printed[..end];
         match came {
             Outcome::Lines(lines) if written == whole => return (refused, Some(lines)),
             Outcome::OutOfMemory if may_be_written(kind, written, whole) => {}
@@ -152,19 +143,10 @@ fn all_algorithms(alloc: Global, text: &[u8]) -> Result<Vec<InitializedAlgorithm
     Ok(all)
 }
 
-/// Compares what comes of a case where one request for memory after another is refused.
-fn compare<R: Abort>(
-    rt: &R,
-    alloc: Global,
-    kind: Kind,
-    case: &str,
-    lines: usize,
-) -> Result<(), Fail> {
-    let case = case_of(case);
-    let name = case.words[1];
-    let whole = case.expected.strip_suffix("ended: fine\n");
-    let whole = whole.unwrap_or(case.expected).as_bytes();
-    let schedule = read_schedule(alloc, case.given.as_bytes())?;
+/// Fails unless what comes of a case is as expected, where one request for memory after another is refused.
+fn compare(alloc: Global, kind: Kind, table: &str, lines: usize) -> Result<(), Fail> {
+    let (name, given, whole) = schedule_of(table);
+    let schedule = read_schedule(alloc, given)?;
     let mut algorithms = all_algorithms(alloc, text_named(name))?;
     let mut scarce_memory = ScarceMemory::new(alloc)?;
     let (refused, found) = refusals(
@@ -178,18 +160,17 @@ fn compare<R: Abort>(
     scarce_memory.end();
     drop(algorithms);
     drop(schedule);
-    assert!(rt;
-        found == Some(lines) && 0 < refused && refused < TRIES as u64,
-        "{name}"
-    );
-    Ok(())
+    if found == Some(lines) && 0 < refused && refused < TRIES as u64 {
+        return Ok(());
+    }
+    Err(Fail::new(format_args!("{name}: {refused} {found:?}")))
 }
 
 #[test]
 fn memory_is_refused(rt: HostRuntime) -> Result<(), Fail> {
-    compare(&rt, rt.alloc(), Kind::Hunt, HUNT, 7)?;
-    compare(&rt, rt.alloc(), Kind::Shrink, SHRINK, 5)?;
-    compare(&rt, rt.alloc(), Kind::Report, ONE_WORD, 0)?;
-    compare(&rt, rt.alloc(), Kind::ReportOfSteps, ALONE_BY_STEPS, 0)?;
-    compare(&rt, rt.alloc(), Kind::Drawing, ALONE, 0)
+    compare(rt.alloc(), Kind::Hunt, HUNT, 7)?;
+    compare(rt.alloc(), Kind::Shrink, SHRINK, 5)?;
+    compare(rt.alloc(), Kind::Report, ONE_WORD, 0)?;
+    compare(rt.alloc(), Kind::ReportOfSteps, ALONE_BY_STEPS, 0)?;
+    compare(rt.alloc(), Kind::Drawing, ALONE, 0)
 }

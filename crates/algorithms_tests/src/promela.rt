@@ -51,6 +51,18 @@ fn model_is<R: Abort>(
     Ok(())
 }
 
+/// The fault of a model of this text, for these numbers of processes, numbers and crashes.
+fn fault_of(
+    alloc: Global,
+    text: &[u8],
+    procs: u64,
+    limit: u64,
+    crashes: u64,
+) -> Result<Option<PromelaFault>, Fail> {
+    let algorithm = read_algorithm(alloc, text)?;
+    Ok(write_promela(alloc, algorithm, procs, limit, crashes, &CALLS).err())
+}
+
 #[test]
 fn models_of_algorithms(rt: HostRuntime) -> Result<(), Fail> {
     let alloc = rt.alloc();
@@ -62,18 +74,14 @@ fn models_of_algorithms(rt: HostRuntime) -> Result<(), Fail> {
 
 #[test]
 fn models_that_are_refused(rt: HostRuntime) -> Result<(), Fail> {
-    let alloc = rt.alloc();
-    let peterson = read_algorithm(alloc, text_named("peterson"))?;
-    let refused = write_promela(alloc, peterson, 3, 1, 0, &CALLS);
-    assert!(rt; refused.err() == Some(PromelaFault::Refused(AlgorithmRefusal::BadProcs)));
-    let peterson = read_algorithm(alloc, text_named("peterson"))?;
-    let great = write_promela(alloc, peterson, 2, 32768, 0, &CALLS);
-    assert!(rt; great.err() == Some(PromelaFault::TooGreat));
-    let peterson = read_algorithm(alloc, text_named("peterson"))?;
-    let crashes = write_promela(alloc, peterson, 2, 1, 32768, &CALLS);
-    let wide = read_algorithm(alloc, WIDE)?;
-    let products = write_promela(alloc, wide, 2, 1, 0, &CALLS);
-    assert!(rt; products.err() == Some(PromelaFault::TooGreat));
-    assert!(rt; crashes.err() == Some(PromelaFault::TooGreat));
+    let peterson = text_named("peterson");
+    let refused = fault_of(rt.alloc(), peterson, 3, 1, 0)?;
+    let great = fault_of(rt.alloc(), peterson, 2, 32768, 0)?;
+    let crashes = fault_of(rt.alloc(), peterson, 2, 1, 32768)?;
+    let products = fault_of(rt.alloc(), WIDE, 2, 1, 0)?;
+    assert!(rt; refused == Some(PromelaFault::Refused(AlgorithmRefusal::BadProcs)));
+    assert!(rt; great == Some(PromelaFault::TooGreat));
+    assert!(rt; crashes == Some(PromelaFault::TooGreat));
+    assert!(rt; products == Some(PromelaFault::TooGreat));
     Ok(())
 }

@@ -1,38 +1,27 @@
 //! Replays, against the reference interpreter's reports.
 
-use crate::cases::{Kind, compare_cases, words};
-use crate::replays::{bakeries as bakery_replays, others as other_replays};
+use crate::cases::words;
 use crate::support::{number, text_named};
 use crate::texts::bakeries;
 use algorithm_texts::read_algorithm;
 use algorithms::{
     Algorithm, AlgorithmCall, AlgorithmDeed, AlgorithmPlace, AlgorithmRefusal, AlgorithmWorld,
-    Extent, NAMES, NotedDeeds, Taken,
+    Extent, NAMES, Taken,
 };
 use std::alloc::{AllocError, Global};
 use std::fmt::Write;
 use std::test::Fail;
 
+/// The name of a deed, after a space.
 fn name_of(deed: AlgorithmDeed) -> &'static str {
     match deed {
-        AlgorithmDeed::Begin => "begin",
-        AlgorithmDeed::Ready => "ready",
-        AlgorithmDeed::Enter => "enter",
-        AlgorithmDeed::Reenter => "reenter",
-        AlgorithmDeed::Leave => "leave",
-        AlgorithmDeed::Quit => "quit",
+        AlgorithmDeed::Begin => " begin",
+        AlgorithmDeed::Ready => " ready",
+        AlgorithmDeed::Enter => " enter",
+        AlgorithmDeed::Reenter => " reenter",
+        AlgorithmDeed::Leave => " leave",
+        AlgorithmDeed::Quit => " quit",
     }
-}
-
-/// Writes the deeds of a step.
-fn put_deeds(noted: NotedDeeds, text: &mut String) -> Result<(), AllocError> {
-    for deed in [noted.first, noted.second, noted.third] {
-        if let Some(deed) = deed {
-            text.push_str(" ")?;
-            text.push_str(name_of(deed))?;
-        }
-    }
-    Ok(())
 }
 
 /// Writes what an access reads or stores: of a swap `swap 0 = 1`.
@@ -69,8 +58,21 @@ fn put_access(algorithm: &Algorithm, taken: &Taken, text: &mut String) -> Result
     put_value(taken, text)
 }
 
-/// Writes that a call ends, and its answer.
-fn put_answer(algorithm: &Algorithm, answer: usize, text: &mut String) -> Result<(), AllocError> {
+/// Writes a step as the reference interpreter does: `9 flag[0] = 1 begin`, and that a call ends, with its answer.
+fn put_step(algorithm: &Algorithm, taken: &Taken, text: &mut String) -> Result<(), AllocError> {
+    put_access(algorithm, taken, text)?;
+    if taken.moved.blocked {
+        text.push_str(" blocked")?;
+    }
+    let noted = taken.moved.noted;
+    for deed in [noted.first, noted.second, noted.third] {
+        if let Some(deed) = deed {
+            text.push_str(name_of(deed))?;
+        }
+    }
+    let Some(answer) = taken.moved.answer else {
+        return Ok(());
+    };
     text.push_str(" done")?;
     let Some(answer) = algorithm.answers.get(answer) else {
         return text.push_str(" no answer");
@@ -80,19 +82,6 @@ fn put_answer(algorithm: &Algorithm, answer: usize, text: &mut String) -> Result
     }
     text.push_str(" ")?;
     text.push_str(answer.as_str())
-}
-
-/// Writes a step as the reference interpreter does: `9 flag[0] = 1 begin`.
-fn put_step(algorithm: &Algorithm, taken: &Taken, text: &mut String) -> Result<(), AllocError> {
-    put_access(algorithm, taken, text)?;
-    if taken.moved.blocked {
-        text.push_str(" blocked")?;
-    }
-    put_deeds(taken.moved.noted, text)?;
-    if let Some(answer) = taken.moved.answer {
-        return put_answer(algorithm, answer, text);
-    }
-    Ok(())
 }
 
 /// Writes a refusal as the reference interpreter does.
@@ -152,19 +141,7 @@ fn put_move(world: &mut AlgorithmWorld, asked: &str, text: &mut String) -> Resul
     }
 }
 
-/// Writes the values of all words.
-fn put_words(world: &AlgorithmWorld, text: &mut String) -> Result<(), AllocError> {
-    text.push_str("words")?;
-    for (declared, row) in world.algorithm().declarations.iter().zip(world.words()) {
-        let used = declared.extent.length(world.procs(), world.limit());
-        for value in row.iter().take(used as usize) {
-            write!(text, " {value}")?;
-        }
-    }
-    text.push_str("\n")
-}
-
-/// Plays each move, and writes it with what it does, and the words at the end.
+/// Plays each move, and writes it with what it does, and the values of all words at the end.
 fn put_moves(world: &mut AlgorithmWorld, moves: &str, text: &mut String) -> Result<(), AllocError> {
     for line in moves.lines() {
         if let Some((asked, _)) = line.split_once(" -> ") {
@@ -174,7 +151,14 @@ fn put_moves(world: &mut AlgorithmWorld, moves: &str, text: &mut String) -> Resu
             text.push_str("\n")?;
         }
     }
-    put_words(world, text)
+    text.push_str("words")?;
+    for (declared, row) in world.algorithm().declarations.iter().zip(world.words()) {
+        let used = declared.extent.length(world.procs(), world.limit());
+        for value in row.iter().take(used as usize) {
+            write!(text, " {value}")?;
+        }
+    }
+    text.push_str("\n")
 }
 
 /// A replay of moves, as a case: the text, the number of processes and the limit.
@@ -189,12 +173,6 @@ pub fn put_run(
     let written = put_moves(&mut world, moves, text);
     drop(world);
     Ok(written?)
-}
-
-#[test]
-fn locks_run(rt: HostRuntime) -> Result<(), Fail> {
-    compare_cases(rt.alloc(), Kind::Run, bakery_replays::BAKERIES)?;
-    compare_cases(rt.alloc(), Kind::Run, other_replays::OTHERS)
 }
 
 /// Whether a crash loses the place and the names of process 1, some of which have a value before.

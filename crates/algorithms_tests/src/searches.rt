@@ -2,19 +2,18 @@
 //! how many states there are, with the moves left out. After the text a case has the sizes, how many crashes there may be, of a process
 //! alone and after a plus of all, and whether processes make all calls.
 
-use crate::cases::{Kind, compare_cases};
-use crate::support::{crashes_left, number, text_named};
+use crate::support::{calls_named, crashes_left, number, text_named};
 use algorithm_explorer::{
     AlgorithmBounds, AlgorithmOutcome, LeftOut, SearchOutcome, Unwatched,
     shortest_algorithm_schedule,
 };
 use algorithm_texts::read_algorithm;
-use algorithms::AlgorithmCall;
 use std::alloc::{AllocError, Global};
 use std::fmt::Write;
 use std::test::Fail;
 
-const VARIANTS: &str = "\
+pub const VARIANTS: &str = "\
+search wrong bakeries\n\
 == no_look 2 1 0\n--\n20 moves\n\
 == no_ties 2 1 0\n--\n22 moves\n\
 == renumber 2 2 1\n--\n2460 states\n\
@@ -22,7 +21,8 @@ const VARIANTS: &str = "\
 == exit_on_crash 1 1 1\n--\n16 moves\n\
 ";
 
-const BAKERIES: &str = "\
+pub const BAKERIES: &str = "\
+search bakeries\n\
 == bakery_ruin 2 1 0\n--\n259 states\n\
 == bakery_ruin 2 2 0\n--\n461 states\n\
 == bakery_ruin 2 3 0\n--\n693 states\n\
@@ -33,14 +33,16 @@ const BAKERIES: &str = "\
 == bakery 2 2 1\n--\n2206 states\n\
 ";
 
-const LARGER: &str = "\
+pub const LARGER: &str = "\
+search bakeries with more numbers\n\
 == bakery_ruin 2 3 1\n--\n5699 states\n\
 == bakery_ruin 2 4 1\n--\n7657 states\n\
 ";
 
-const FOR_THREE: &str = "== bakery_ruin 3 1 0\n--\n9145 states\n";
+pub const FOR_THREE: &str = "search the bakery for three\n== bakery_ruin 3 1 0\n--\n9145 states\n";
 
-const OTHERS: &str = "\
+pub const OTHERS: &str = "\
+search other algorithms\n\
 == peterson 2 1 0\n--\n58 states\n\
 == peterson 2 1 1\n--\n13 moves\n\
 == peterson 3 1 0\n--\nthe algorithm is not for this number of processes\n\
@@ -57,7 +59,8 @@ const OTHERS: &str = "\
 == bakery_1974 2 1 1\n--\n358 states, 79 moves left out from line 16\n\
 ";
 
-const WITH_SYSTEM_CRASHES: &str = "\
+pub const WITH_SYSTEM_CRASHES: &str = "\
+search with crashes of all\n\
 == bakery_ruin 2 1 0+1\n--\n2925 states\n\
 == bakery_ruin 2 2 0+1\n--\n5393 states\n\
 == recoverable_peterson 2 1 0+1\n--\n618 states\n\
@@ -68,13 +71,6 @@ const WITH_SYSTEM_CRASHES: &str = "\
 == forgetful_peterson 2 1 0+1\n--\n16 moves\n\
 == peterson 2 1 0+1\n--\n13 moves\n\
 ";
-
-const ALL: [AlgorithmCall; 4] = [
-    AlgorithmCall::Lock,
-    AlgorithmCall::Unlock,
-    AlgorithmCall::Recover,
-    AlgorithmCall::Withdraw,
-];
 
 const BOUNDS: AlgorithmBounds = AlgorithmBounds {
     moves: 1000,
@@ -104,7 +100,7 @@ pub fn put_search(alloc: Global, words: &[&str; 8], text: &mut String) -> Result
         number(procs),
         number(limit),
         crashes_left(crashes),
-        if *calls == "all" { &ALL } else { &ALL[..2] },
+        calls_named(calls),
         &BOUNDS,
         &mut Unwatched,
     );
@@ -114,34 +110,4 @@ pub fn put_search(alloc: Global, words: &[&str; 8], text: &mut String) -> Result
     };
     drop(found);
     Ok(written?)
-}
-
-#[test]
-fn wrong_bakeries(rt: HostRuntime) -> Result<(), Fail> {
-    compare_cases(rt.alloc(), Kind::Search, VARIANTS)
-}
-
-#[test]
-fn states_of_the_bakery(rt: HostRuntime) -> Result<(), Fail> {
-    compare_cases(rt.alloc(), Kind::Search, BAKERIES)
-}
-
-#[test]
-fn states_of_the_bakery_with_more_numbers(rt: HostRuntime) -> Result<(), Fail> {
-    compare_cases(rt.alloc(), Kind::Search, LARGER)
-}
-
-#[test]
-fn states_of_the_bakery_for_three(rt: HostRuntime) -> Result<(), Fail> {
-    compare_cases(rt.alloc(), Kind::Search, FOR_THREE)
-}
-
-#[test]
-fn other_algorithms(rt: HostRuntime) -> Result<(), Fail> {
-    compare_cases(rt.alloc(), Kind::Search, OTHERS)
-}
-
-#[test]
-fn states_after_crashes_of_all(rt: HostRuntime) -> Result<(), Fail> {
-    compare_cases(rt.alloc(), Kind::Search, WITH_SYSTEM_CRASHES)
 }

@@ -1,6 +1,5 @@
 //! Sessions over algorithms: the lines that are given, and all that is written.
 
-use crate::cases::{Kind, compare_cases};
 use crate::support::{put_page, text_named};
 use algorithm_lab::Monitor;
 use algorithm_texts::read_algorithm;
@@ -9,7 +8,8 @@ use schedule::read_schedule;
 use std::alloc::{AllocError, Global};
 use std::test::Fail;
 
-const PETERSON: &str = "== peterson
+pub const PETERSON: &str = "session on peterson
+== peterson
 lock 0
 step 0
 to answer 0
@@ -65,7 +65,8 @@ call unlock
 ";
 
 /// Lines of steps and one to an answer are refused in their midst.
-const REFUSED: &str = "== bounded
+pub const REFUSED: &str = "session with lines that are refused
+== bounded
 lock 0
 step 0 2
 undo
@@ -126,14 +127,4 @@ pub fn put_session(
     drop(session);
     answered?;
     put_page(page.as_slice(), text)
-}
-
-#[test]
-fn peterson(rt: HostRuntime) -> Result<(), Fail> {
-    compare_cases(rt.alloc(), Kind::Session, PETERSON)
-}
-
-#[test]
-fn refused_in_its_midst(rt: HostRuntime) -> Result<(), Fail> {
-    compare_cases(rt.alloc(), Kind::Session, REFUSED)
 }

@@ -1,7 +1,6 @@
 //! Schedules made least on algorithms, against the reference program: a schedule without a line, with a count lowered, and with
 //! two lines of steps made one.
 
-use crate::cases::{Kind, compare_cases};
 use crate::support::{put_fault, put_schedule, text_named};
 use algorithm_explorer::shrink_algorithm_schedule;
 use algorithm_texts::read_algorithm;
@@ -11,7 +10,8 @@ use std::test::Fail;
 
 /// Process 0 crashes inside, alone or with process 1, and both enter then: none of the lines can go. What the hunt of seed 2 finds in `one_word`: both read
 /// the word before either sets it.
-const LEAST: &str = "== peterson
+pub const LEAST: &str = "shrink schedules
+== peterson
 rme 1 procs 2 limit 1 cap 1
 lock 0
 step 0 3
@@ -119,9 +119,4 @@ pub fn put_least(
         Ok(None) => Ok(text.push_str("none\n")?),
         Err(fault) => Ok(put_fault(*fault, text)?),
     }
-}
-
-#[test]
-fn least_schedules(rt: HostRuntime) -> Result<(), Fail> {
-    compare_cases(rt.alloc(), Kind::Shrink, LEAST)
 }

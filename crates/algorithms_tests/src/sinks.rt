@@ -1,6 +1,6 @@
 //! Reports and drawings whose sink fails.
 
-use crate::cases::{Kind, case_of};
+use crate::cases::case_of;
 use crate::drawings::ALONE;
 use crate::reports::others::ONE_WORD;
 use crate::schedules::ALONE_BY_STEPS;
@@ -13,8 +13,18 @@ use schedule::{Schedule, Sink, ToWriter, Verdict, read_schedule};
 use std::alloc::Global;
 use std::io;
 use std::io::{Cursor, ErrorKind, Write};
-use std::process::Abort;
 use std::test::Fail;
+
+/// What is called.
+#[derive(Clone, Copy)]
+pub enum Kind {
+    Hunt,
+    Shrink,
+    Report,
+    /// A replay with each step.
+    ReportOfSteps,
+    Drawing,
+}
 
 /// A writer that takes everything, and fails when it is flushed.
 #[derive(Drop)]
@@ -76,24 +86,31 @@ fn least_room(
     Ok(whole.len())
 }
 
-/// Compares what comes of a case where its sink has room for a beginning alone, and where it fails at its end.
-fn compare<R: Abort>(rt: &R, alloc: Global, kind: Kind, case: &str) -> Result<(), Fail> {
-    let case = case_of(case);
-    let name = case.words[1];
-    let whole = case.expected.strip_suffix("ended: fine\n");
-    let whole = whole.unwrap_or(case.expected).as_bytes();
-    let schedule = read_schedule(alloc, case.given.as_bytes())?;
+/// The name of a case, its schedule, and all that is written of it.
+pub fn schedule_of(table: &str) -> (&str, &[u8], &[u8]) {
+    let (_, case) = table.split_once("== ").unwrap_or(("", table));
+    let (words, given, expected) = case_of(case);
+    let whole = expected.strip_suffix("ended: fine\n").unwrap_or(expected);
+    (words[0], given.as_bytes(), whole.as_bytes())
+}
+
+/// Fails unless the sink of a case fails where it has room for a beginning alone, and where it fails at its end.
+fn compare(alloc: Global, kind: Kind, table: &str) -> Result<(), Fail> {
+    let (name, given, whole) = schedule_of(table);
+    let schedule = read_schedule(alloc, given)?;
     let room = least_room(alloc, (kind, name), &schedule, whole)?;
     let mut sink = ToWriter::new(Unflushed);
     let failed = fails(alloc, (kind, name), &schedule, &mut sink)?;
     drop(schedule);
-    assert!(rt; room == whole.len() && failed, "{name}: {room}");
-    Ok(())
+    if room == whole.len() && failed {
+        return Ok(());
+    }
+    Err(Fail::new(format_args!("{name}: {room}")))
 }
 
 #[test]
 fn a_sink_fails(rt: HostRuntime) -> Result<(), Fail> {
-    compare(&rt, rt.alloc(), Kind::Report, ONE_WORD)?;
-    compare(&rt, rt.alloc(), Kind::ReportOfSteps, ALONE_BY_STEPS)?;
-    compare(&rt, rt.alloc(), Kind::Drawing, ALONE)
+    compare(rt.alloc(), Kind::Report, ONE_WORD)?;
+    compare(rt.alloc(), Kind::ReportOfSteps, ALONE_BY_STEPS)?;
+    compare(rt.alloc(), Kind::Drawing, ALONE)
 }

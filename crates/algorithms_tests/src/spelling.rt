@@ -1,16 +1,6 @@
 //! What the text of the recoverable Bakery spells: the value of which the laws of `algorithm_lab` speak, line by line.
 
-use crate::cases::{Kind, compare_cases};
 use crate::support::text_named;
-use algorithm_explorer::laws::{no_search_finds_the_text_out, which_states_are_one};
-use algorithm_lab::laws::{
-    a_core_makes_these_moves, the_text_is_never_found_out, the_text_means_the_lock,
-    the_text_plays_as_the_lock,
-};
-use algorithm_texts::laws::{
-    a_line_says_one_thing, a_text_without_values_begins_at_zero, lines_make_blocks,
-    tokens_are_read_as_said, tokens_say_one_part,
-};
 use algorithm_texts::read_algorithm;
 use algorithms::{Algorithm, InitializedAlgorithm};
 use std::alloc::{AllocError, Global};
@@ -19,7 +9,8 @@ use std::test::Fail;
 
 /// The forms of the lines, in the order of `lines` of Bakery.antt, the answers, in the order of `answer_number` of Moves.antt, and
 /// all else. No first values are said: the laws speak of worlds whose words begin at 0.
-const BAKERY: &str = "== bakery
+pub const BAKERY: &str = "spell the bakery
+== bakery
 --
 Access(AccessLine { word: WordOf { declaration: 0, index: Some(Me) }, action: Load { name: 0 }, may_withdraw: false })
 Access(AccessLine { word: WordOf { declaration: 1, index: Some(Me) }, action: Load { name: 1 }, may_withdraw: false })
@@ -100,16 +91,8 @@ first values None
 ";
 
 /// Two answers that differ in the spaces between their words alone.
-const SPACED: &str =
-    "== spaces\nalgorithm a for 2 processes\npromises exclusion\nshared x\ncall lock\n  x := 1 this is enter\n  done   let-in  at once \ncall unlock\n  x := 0 this is leave\n  done let-in at   once# again\n--\nanswer let-in at once\n";
-
-/// Writes the form of each line.
-fn put_forms(algorithm: &Algorithm, text: &mut String) -> Result<(), AllocError> {
-    for line in &algorithm.lines {
-        writeln!(text, "{:?}", line.form)?;
-    }
-    Ok(())
-}
+pub const SPACED: &str =
+    "answers with spaces\n== spaces\nalgorithm a for 2 processes\npromises exclusion\nshared x\ncall lock\n  x := 1 this is enter\n  done   let-in  at once \ncall unlock\n  x := 0 this is leave\n  done let-in at   once# again\n--\nanswer let-in at once\n";
 
 /// Writes each answer.
 fn put_answers(algorithm: &Algorithm, text: &mut String) -> Result<(), AllocError> {
@@ -119,8 +102,13 @@ fn put_answers(algorithm: &Algorithm, text: &mut String) -> Result<(), AllocErro
     Ok(())
 }
 
-/// Writes what is neither a line nor an answer.
-fn put_head(algorithm: &Algorithm, text: &mut String) -> Result<(), AllocError> {
+/// Writes all that a text spells.
+fn put_all(spelled: &InitializedAlgorithm, text: &mut String) -> Result<(), AllocError> {
+    let algorithm = &spelled.algorithm;
+    for line in &algorithm.lines {
+        writeln!(text, "{:?}", line.form)?;
+    }
+    put_answers(algorithm, text)?;
     writeln!(text, "{:?}", algorithm.entries)?;
     writeln!(text, "{} {:?}", algorithm.name, algorithm.names)?;
     writeln!(text, "{:?}", algorithm.declarations)?;
@@ -130,14 +118,7 @@ fn put_head(algorithm: &Algorithm, text: &mut String) -> Result<(), AllocError> 
         text,
         "{least} to {most} processes, {} lasting names",
         algorithm.lasting
-    )
-}
-
-/// Writes all that a text spells.
-fn put_all(spelled: &InitializedAlgorithm, text: &mut String) -> Result<(), AllocError> {
-    put_forms(&spelled.algorithm, text)?;
-    put_answers(&spelled.algorithm, text)?;
-    put_head(&spelled.algorithm, text)?;
+    )?;
     writeln!(text, "first values {:?}", spelled.first_values)
 }
 
@@ -155,25 +136,4 @@ pub fn put_spelling(alloc: Global, words: &[&str; 8], text: &mut String) -> Resu
     let written = put_all(&algorithm, text);
     drop(algorithm);
     Ok(written?)
-}
-
-#[test]
-fn spaces_part_the_words_of_an_answer(rt: HostRuntime) -> Result<(), Fail> {
-    compare_cases(rt.alloc(), Kind::Answers, SPACED)
-}
-
-#[test]
-fn the_text_spells_the_bakery(rt: HostRuntime) -> Result<(), Fail> {
-    a_line_says_one_thing();
-    tokens_say_one_part();
-    the_text_means_the_lock();
-    the_text_plays_as_the_lock();
-    the_text_is_never_found_out();
-    a_core_makes_these_moves();
-    no_search_finds_the_text_out();
-    which_states_are_one();
-    lines_make_blocks();
-    tokens_are_read_as_said();
-    a_text_without_values_begins_at_zero();
-    compare_cases(rt.alloc(), Kind::Spelling, BAKERY)
 }

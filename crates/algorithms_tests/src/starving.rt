@@ -2,16 +2,15 @@
 //! cycle have, or how many worlds there are. After the text a case has the sizes, the crashes, the calls beside lock and unlock, and
 //! `any` where anybody may give up.
 
-use crate::cases::{Kind, compare_cases};
-use crate::support::{crashes_left, number, text_named};
+use crate::support::{calls_named, crashes_left, number, text_named};
 use algorithm_explorer::{StarvingOutcome, Unwatched, starving_algorithm_schedule};
 use algorithm_texts::read_algorithm;
-use algorithms::AlgorithmCall;
 use std::alloc::Global;
 use std::fmt::Write;
 use std::test::Fail;
 
-const NOBODY: &str = "\
+pub const NOBODY: &str = "\
+starve: nobody\n\
 == peterson 2 1 0 none\n--\n58 worlds\n\
 == recoverable_peterson 2 1 0 none\n--\n116 worlds\n\
 == dekker 2 1 0 none\n--\n134 worlds\n\
@@ -29,7 +28,8 @@ const NOBODY: &str = "\
 == bakery_1974 2 3 1 none\n--\n1253 worlds\n\
 ";
 
-const SOMEBODY: &str = "\
+pub const SOMEBODY: &str = "\
+starve: somebody\n\
 == burns 2 1 0 none\n--\n1 starves, stem 1, cycle 8\n\
 == burns 3 1 0 none\n--\n1 starves, stem 1, cycle 9\n\
 == no_turn 2 1 0 none\n--\n0 starves, stem 4, cycle 2\n\
@@ -42,7 +42,8 @@ const SOMEBODY: &str = "\
 ";
 
 /// Of the Bakery a process starves only where another gives up: it is out of numbers, or it withdraws or recovers.
-const QUITTERS: &str = "\
+pub const QUITTERS: &str = "\
+starve beside quitters\n\
 == bakery 2 1 0 none\n--\n193 worlds\n\
 == bakery 2 1 0 none any\n--\n0 starves, stem 8, cycle 8\n\
 == bakery 2 3 0 none any\n--\n0 starves, stem 36, cycle 8\n\
@@ -52,37 +53,18 @@ const QUITTERS: &str = "\
 ";
 
 /// Of a text that promises deadlock freedom alone a process starves only where nobody enters.
-const PROMISED: &str = "\
+pub const PROMISED: &str = "\
+starve against a promise\n\
 == free_test_and_set 2 1 0 none\n--\n12 worlds\n\
 == fair_test_and_set 2 1 0 none\n--\n0 starves, stem 1, cycle 5\n\
 == crossed_flags 2 1 0 none\n--\n0 starves, stem 4, cycle 2\n\
 ";
 
-const AT_LENGTH: &str = "\
+pub const AT_LENGTH: &str = "\
+starve at length\n\
 == bakery 2 4 1 recover\n--\n7048 worlds\n\
 == bakery 2 4 1 recover any\n--\n0 starves, stem 15, cycle 5\n\
 ";
-
-const CALLS: [AlgorithmCall; 3] = [
-    AlgorithmCall::Lock,
-    AlgorithmCall::Unlock,
-    AlgorithmCall::Recover,
-];
-
-const WITHDRAWS: [AlgorithmCall; 3] = [
-    AlgorithmCall::Lock,
-    AlgorithmCall::Unlock,
-    AlgorithmCall::Withdraw,
-];
-
-/// The calls of a case: lock and unlock, and another.
-fn calls_named(name: &str) -> &'static [AlgorithmCall] {
-    match name {
-        "recover" => &CALLS,
-        "withdraw" => &WITHDRAWS,
-        _ => &CALLS[..2],
-    }
-}
 
 /// A search, as a case: the text, the sizes, the crashes, the calls, and who may give up.
 pub fn put_starving(alloc: Global, words: &[&str; 8], text: &mut String) -> Result<(), Fail> {
@@ -113,29 +95,4 @@ pub fn put_starving(alloc: Global, words: &[&str; 8], text: &mut String) -> Resu
     };
     drop(found);
     Ok(written?)
-}
-
-#[test]
-fn starves_against_a_promise(rt: HostRuntime) -> Result<(), Fail> {
-    compare_cases(rt.alloc(), Kind::Starving, PROMISED)
-}
-
-#[test]
-fn nobody_starves(rt: HostRuntime) -> Result<(), Fail> {
-    compare_cases(rt.alloc(), Kind::Starving, NOBODY)
-}
-
-#[test]
-fn somebody_starves(rt: HostRuntime) -> Result<(), Fail> {
-    compare_cases(rt.alloc(), Kind::Starving, SOMEBODY)
-}
-
-#[test]
-fn starving_beside_quitters(rt: HostRuntime) -> Result<(), Fail> {
-    compare_cases(rt.alloc(), Kind::Starving, QUITTERS)
-}
-
-#[test]
-fn starving_at_length(rt: HostRuntime) -> Result<(), Fail> {
-    compare_cases(rt.alloc(), Kind::Starving, AT_LENGTH)
 }

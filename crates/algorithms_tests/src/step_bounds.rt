@@ -2,12 +2,10 @@
 //! of `mcs` waits for its successor without a bound, `recoverable_test_and_set` has entered again after 1 step, and a doorway of
 //! `ticket` takes 1 step.
 
-use crate::cases::{Kind, compare_cases};
-use std::test::Fail;
-
 /// A bound that is kept makes no state of a search, where the place of a process says how many steps it has taken. After a crash in
 /// its doorway `bounded_peterson` comes to the same place by fewer steps.
-const SEARCHES: &str = "\
+pub const SEARCHES: &str = "\
+search with bounds on own steps\n\
 == ticket_exit_2 2 1 0\n--\n56 states\n\
 == ticket_exit_1 2 1 0\n--\n6 moves\n\
 == mcs_exit_3 2 1 0\n--\n11 moves\n\
@@ -23,7 +21,8 @@ const SEARCHES: &str = "\
 
 /// The first step above the bound is reported once, before the deeds of the step. A crash gives the section up. The verdict on the
 /// deeds comes first.
-const REPORTS: &str = "\
+pub const REPORTS: &str = "\
+report of an excess\n\
 == mcs_exit_3
 rme 1 procs 2 limit 1 cap 1
 lock 0
@@ -117,7 +116,8 @@ verdict against 10 at 1
 ";
 
 /// A schedule that a search finds is least already, but for its lines of steps.
-const LEAST: &str = "\
+pub const LEAST: &str = "\
+shrink a schedule against a bound\n\
 == mcs_exit_3
 rme 1 procs 2 limit 1 cap 1
 lock 0
@@ -142,7 +142,8 @@ step 0 4
 ";
 
 /// The excess has a row of its own. The verdict is against no deed, so that none is marked.
-const DRAWING: &str = "\
+pub const DRAWING: &str = "\
+draw an excess\n\
 == ticket_exit_1
 rme 1 procs 1 limit 1 cap 1
 lock 0
@@ -165,7 +166,8 @@ ended: against at 4
 ";
 
 /// What is wrong, a text, and where: the line, and the number of its fault.
-const BAD: &str = "\
+pub const BAD: &str = "\
+read faults of bounds\n\
 == no bound\nalgorithm a for 2 processes\npromises exclusion, exit\nshared w\ncall lock\n  w := 1 this is enter\n  done\ncall unlock\n  w := 0 this is leave\n  done\n--\nline 2: fault 4\n\
 == no number\nalgorithm a for 2 processes\npromises exclusion, exit within\nshared w\ncall lock\n  w := 1 this is enter\n  done\ncall unlock\n  w := 0 this is leave\n  done\n--\nline 2: fault 4\n\
 == a name\nalgorithm a for 2 processes\npromises exclusion, exit within x\nshared w\ncall lock\n  w := 1 this is enter\n  done\ncall unlock\n  w := 0 this is leave\n  done\n--\nline 2: fault 4\n\
@@ -184,38 +186,9 @@ const BAD: &str = "\
 ";
 
 /// `exit`, `recovery`, `doorway` and `within` are no words of the format.
-const GOOD: &str = "\
+pub const GOOD: &str = "\
+read bounds\n\
 == a recovery alone\nalgorithm a for 2 processes\npromises exclusion, recovery within 0\nshared w\ncall lock\n  w := 1 this is enter\n  done\ncall unlock\n  w := 0 this is leave\n  done\n--\nread\n\
 == all of them\nalgorithm a for 2 processes\npromises exclusion, reentry, order, exit within 18446744073709551615, recovery within 7, doorway within 2, starvation freedom\nshared w\ncall lock\n  w := 1 this is begin\n  w := 2 this is ready\n  w := 3 this is enter\n  done\ncall unlock\n  w := 0 this is leave\n  done\n--\nread\n\
 == as names\nalgorithm exit for 2 processes\npromises exclusion, exit within 1\nshared within\ncall lock\n  recovery := within\n  within := recovery this is enter\n  done\ncall unlock\n  within := 0 this is leave\n  done\n--\nread\n\
 ";
-
-#[test]
-fn searches_with_bounds(rt: HostRuntime) -> Result<(), Fail> {
-    compare_cases(rt.alloc(), Kind::Search, SEARCHES)
-}
-
-#[test]
-fn an_excess_is_reported(rt: HostRuntime) -> Result<(), Fail> {
-    compare_cases(rt.alloc(), Kind::Report, REPORTS)
-}
-
-#[test]
-fn an_excess_is_drawn(rt: HostRuntime) -> Result<(), Fail> {
-    compare_cases(rt.alloc(), Kind::Drawing, DRAWING)
-}
-
-#[test]
-fn a_schedule_against_a_bound_is_made_least(rt: HostRuntime) -> Result<(), Fail> {
-    compare_cases(rt.alloc(), Kind::Shrink, LEAST)
-}
-
-#[test]
-fn each_fault_of_a_bound_has_its_line(rt: HostRuntime) -> Result<(), Fail> {
-    compare_cases(rt.alloc(), Kind::Reading, BAD)
-}
-
-#[test]
-fn bounds_are_read(rt: HostRuntime) -> Result<(), Fail> {
-    compare_cases(rt.alloc(), Kind::Reading, GOOD)
-}

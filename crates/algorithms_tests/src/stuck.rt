@@ -1,17 +1,16 @@
 //! Searches for a stuck state: how many moves a shortest schedule to one has, or how many states there are. After the text a case
 //! has the sizes, how many crashes there may be, and which calls processes make.
 
-use crate::cases::{Kind, compare_cases};
-use crate::support::{crashes_left, number, text_named};
+use crate::support::{calls_named, crashes_left, number, text_named};
 use algorithm_explorer::{StuckOutcome, Unwatched, stuck_algorithm_schedule};
 use algorithm_texts::read_algorithm;
-use algorithms::AlgorithmCall;
 use std::alloc::Global;
 use std::fmt::Write;
 use std::test::Fail;
 
 /// From each state all come home: these locks are free of deadlocks, and one recovers.
-const NEVER: &str = "\
+pub const NEVER: &str = "\
+stuck never\n\
 == peterson 2 1 0 lock-and-unlock\n--\n58 states\n\
 == szymanski 2 1 0 lock-and-unlock\n--\n86 states\n\
 == lamport_fast 2 1 0 lock-and-unlock\n--\n386 states\n\
@@ -19,7 +18,8 @@ const NEVER: &str = "\
 ";
 
 /// Nobody leaves; who has crashed waits for itself; and a number is needed above the limit.
-const STUCK: &str = "\
+pub const STUCK: &str = "\
+stuck states\n\
 == peterson 2 1 0 lock\n--\nstuck after 1 moves\n\
 == one_word 1 1 1 lock-and-unlock\n--\nstuck after 4 moves\n\
 == lamport_fast 2 1 1 lock-and-unlock\n--\nstuck after 6 moves\n\
@@ -28,27 +28,12 @@ const STUCK: &str = "\
 ";
 
 /// A schedule that goes wrong comes first, and a world that there is not before all.
-const WRONG: &str = "\
+pub const WRONG: &str = "\
+stuck after a fault\n\
 == one_word 2 1 1 lock-and-unlock\n--\nfault after 6 moves\n\
 == peterson 2 1 1 lock-and-unlock\n--\nfault after 13 moves\n\
 == peterson 3 1 0 lock-and-unlock\n--\nthe algorithm is not for this number of processes\n\
 ";
-
-const CALLS: [AlgorithmCall; 4] = [
-    AlgorithmCall::Lock,
-    AlgorithmCall::Unlock,
-    AlgorithmCall::Recover,
-    AlgorithmCall::Withdraw,
-];
-
-/// The calls of a case.
-fn calls_named(name: &str) -> &'static [AlgorithmCall] {
-    match name {
-        "all" => &CALLS,
-        "lock" => &CALLS[..1],
-        _ => &CALLS[..2],
-    }
-}
 
 /// A search, as a case: the text, the sizes, the crashes and the calls.
 pub fn put_stuck(alloc: Global, words: &[&str; 8], text: &mut String) -> Result<(), Fail> {
@@ -72,19 +57,4 @@ pub fn put_stuck(alloc: Global, words: &[&str; 8], text: &mut String) -> Result<
     };
     drop(found);
     Ok(written?)
-}
-
-#[test]
-fn never_stuck(rt: HostRuntime) -> Result<(), Fail> {
-    compare_cases(rt.alloc(), Kind::Stuck, NEVER)
-}
-
-#[test]
-fn stuck_states(rt: HostRuntime) -> Result<(), Fail> {
-    compare_cases(rt.alloc(), Kind::Stuck, STUCK)
-}
-
-#[test]
-fn wrong_before_stuck(rt: HostRuntime) -> Result<(), Fail> {
-    compare_cases(rt.alloc(), Kind::Stuck, WRONG)
 }

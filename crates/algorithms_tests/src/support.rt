@@ -4,6 +4,7 @@ use crate::sessions;
 use crate::texts::{arrays, bakeries, claims, constructs, homes, loops, others, promises, swaps};
 use algorithm_explorer::CrashesLeft;
 use algorithm_lab::AlgorithmReplayFault;
+use algorithms::AlgorithmCall;
 use schedule::{Schedule, write_schedule};
 use std::alloc::{AllocError, Global};
 use std::fmt::Write;
@@ -24,6 +25,32 @@ pub fn crashes_left(word: &str) -> CrashesLeft {
             Some(number(alone))
         },
         together: number(together),
+    }
+}
+
+/// All calls.
+const CALLS: [AlgorithmCall; 4] = [
+    AlgorithmCall::Lock,
+    AlgorithmCall::Unlock,
+    AlgorithmCall::Recover,
+    AlgorithmCall::Withdraw,
+];
+
+/// All calls but recover.
+const WITHDRAWS: [AlgorithmCall; 3] = [
+    AlgorithmCall::Lock,
+    AlgorithmCall::Unlock,
+    AlgorithmCall::Withdraw,
+];
+
+/// The calls that a word names: `lock` alone, `all`, or lock and unlock, and beside them `recover` or `withdraw`.
+pub fn calls_named(word: &str) -> &'static [AlgorithmCall] {
+    match word {
+        "lock" => &CALLS[..1],
+        "recover" => &CALLS[..3],
+        "withdraw" => &WITHDRAWS,
+        "all" => &CALLS,
+        _ => &CALLS[..2],
     }
 }
 

@@ -1,9 +1,7 @@
 //! Swaps, against the numbers and the runs of the reference program's second version.
 
-use crate::cases::{Kind, compare_cases};
-use std::test::Fail;
-
-const SEARCHES: &str = "\
+pub const SEARCHES: &str = "\
+search with swaps\n\
 == test_and_set 1 1 0\n--\n4 states\n\
 == test_and_set 2 1 0\n--\n12 states\n\
 == test_and_set 2 1 1\n--\n39 states\n\
@@ -40,7 +38,8 @@ const SEARCHES: &str = "\
 ";
 
 /// From each state all come home, or nobody does once a process has died.
-const STUCK: &str = "\
+pub const STUCK: &str = "\
+stuck with swaps\n\
 == ticket 3 1 0 lock-and-unlock\n--\n384 states\n\
 == mcs 2 1 0 lock-and-unlock\n--\n89 states\n\
 == recoverable_test_and_set 2 1 1 lock-and-unlock\n--\n64 states\n\
@@ -48,14 +47,16 @@ const STUCK: &str = "\
 == mcs 2 1 1 lock-and-unlock\n--\nstuck after 4 moves\n\
 ";
 
-const STARVING: &str = "\
+pub const STARVING: &str = "\
+starve in a queue\n\
 == ticket 2 1 0 none\n--\n56 worlds\n\
 == ticket 3 1 0 none\n--\n384 worlds\n\
 == mcs 2 1 0 none\n--\n89 worlds\n\
 == mcs 3 1 0 none\n--\n1707 worlds\n\
 ";
 
-const RUNS: &str = "\
+pub const RUNS: &str = "\
+run swaps\n\
 == owner 2 1\n\
 lock 0 -> started\n\
 lock 1 -> started\n\
@@ -114,7 +115,8 @@ words 0 2 0 0 0\n\
 ";
 
 /// A swap shows what it read, and what it stored where it did.
-const DRAWN: &str = "== mcs
+pub const DRAWN: &str = "draw swaps
+== mcs
 rme 1 procs 2 limit 1 cap 1
 lock 0
 step 0 2
@@ -174,7 +176,8 @@ verdict fine
 ended: fine
 ";
 
-const SPELLED: &str = "== recoverable_test_and_set
+pub const SPELLED: &str = "spell swaps
+== recoverable_test_and_set
 --
 Access(AccessLine { word: WordOf { declaration: 0, index: None }, action: Load { name: 0 }, may_withdraw: false })
 Local(Branch { condition: Compare(Equal, Private(0), Joined(Sum, Me, Number(1))), otherwise: 3 })
@@ -195,7 +198,8 @@ first values None
 ";
 
 /// What is wrong, a text, and where: the line, and the number of its fault.
-const BAD: &str = "\
+pub const BAD: &str = "\
+read faults of swaps\n\
 == no new value\nalgorithm a for 2 processes\npromises exclusion\nshared w up to 2\nshared a[procs]\ncall lock\n  v := swap w\n  this is enter\n  done\ncall unlock\n  w := 0 this is leave\n  done\n--\nline 6: fault 4\n\
 == no value\nalgorithm a for 2 processes\npromises exclusion\nshared w up to 2\nshared a[procs]\ncall lock\n  v := swap w to\n  this is enter\n  done\ncall unlock\n  w := 0 this is leave\n  done\n--\nline 6: fault 4\n\
 == no to\nalgorithm a for 2 processes\npromises exclusion\nshared w up to 2\nshared a[procs]\ncall lock\n  v := swap w 1\n  this is enter\n  done\ncall unlock\n  w := 0 this is leave\n  done\n--\nline 6: fault 4\n\
@@ -224,49 +228,10 @@ const BAD: &str = "\
 ";
 
 /// `swap` is no word of the format.
-const GOOD: &str = "\
+pub const GOOD: &str = "\
+read names with swap\n\
 == a shared word of this name\nalgorithm a for 2 processes\npromises exclusion\nshared swap[procs] up to 2\nshared turn up to 2\ncall lock\n  v := swap[me]\n  v := swap swap[v] to v + 1 if v < 2\n  await v := swap[me] until v > 0\n  await v := swap turn to me until v != me may withdraw\n  turn := v this is enter\n  done\ncall unlock\n  swap[me] := 0 this is leave\n  done\ncall withdraw\n  swap[me] := 0\n  done\n--\nread\n\
 == one word of this name\nalgorithm a for 2 processes\npromises exclusion\nshared swap\ncall lock\n  x := swap may withdraw this is enter\n  x := swap swap to x\n  await x := swap until x = x\n  swap := x\n  done\ncall unlock\n  x := swap this is leave\n  done\ncall withdraw\n  swap := 0\n  done\n--\nread\n\
 == a private name of this name\nalgorithm a for 2 processes\npromises exclusion\nshared turn\ncall lock\n  swap := turn\n  x := swap\n  x := swap + 1\n  x := swap mod 2\n  swap := swap turn to swap if swap = x\n  turn := swap this is enter\n  done\ncall unlock\n  turn := 0 this is leave\n  done\n--\nread\n\
 == in an if\nalgorithm a for 2 processes\npromises exclusion\nshared turn\ncall lock\n  x := turn\n  if x = 0 then x := swap turn to 1 if x = 0 this is enter\n  done\ncall unlock\n  turn := 0 this is leave\n  done\n--\nread\n\
 ";
-
-#[test]
-fn searches_of_swaps(rt: HostRuntime) -> Result<(), Fail> {
-    compare_cases(rt.alloc(), Kind::Search, SEARCHES)
-}
-
-#[test]
-fn stuck_swaps(rt: HostRuntime) -> Result<(), Fail> {
-    compare_cases(rt.alloc(), Kind::Stuck, STUCK)
-}
-
-#[test]
-fn nobody_starves_in_a_queue(rt: HostRuntime) -> Result<(), Fail> {
-    compare_cases(rt.alloc(), Kind::Starving, STARVING)
-}
-
-#[test]
-fn runs_of_swaps(rt: HostRuntime) -> Result<(), Fail> {
-    compare_cases(rt.alloc(), Kind::Run, RUNS)
-}
-
-#[test]
-fn swaps_are_drawn(rt: HostRuntime) -> Result<(), Fail> {
-    compare_cases(rt.alloc(), Kind::Drawing, DRAWN)
-}
-
-#[test]
-fn a_text_spells_swaps(rt: HostRuntime) -> Result<(), Fail> {
-    compare_cases(rt.alloc(), Kind::Spelling, SPELLED)
-}
-
-#[test]
-fn each_fault_of_a_swap_has_its_line(rt: HostRuntime) -> Result<(), Fail> {
-    compare_cases(rt.alloc(), Kind::Reading, BAD)
-}
-
-#[test]
-fn swap_may_be_a_name(rt: HostRuntime) -> Result<(), Fail> {
-    compare_cases(rt.alloc(), Kind::Reading, GOOD)
-}

@@ -8,68 +8,15 @@ use std::process::Abort;
 use std::test::Fail;
 
 /// All names of texts.
-const NAMES: [&str; 60] = [
-    "bakery",
-    "bakery_ruin",
-    "exit_on_crash",
-    "no_look",
-    "no_ties",
-    "renumber",
-    "bakery_1974",
-    "burns",
-    "dekker",
-    "forgetful_peterson",
-    "lamport_fast",
-    "no_turn",
-    "one_word",
-    "peterson",
-    "peterson_order",
-    "recoverable_peterson",
-    "szymanski",
-    "anderson",
-    "mcs",
-    "recoverable_test_and_set",
-    "recoverable_ticket",
-    "test_and_set",
-    "test_and_test_and_set",
-    "ticket",
-    "board",
-    "counter",
-    "mcs_nil",
-    "named",
-    "narrow",
-    "seats",
-    "owner",
-    "turnstile",
-    "constructs",
-    "bounded",
-    "golab_ramaraju",
-    "yang_anderson",
-    "homes",
-    "clh",
-    "corner",
-    "golab_ramaraju_tournament",
-    "peterson_tournament",
-    "table",
-    "filter",
-    "stairs",
-    "bounded_peterson",
-    "bounded_test_and_set",
-    "bounded_ticket",
-    "hurried_ticket",
-    "instant_test_and_set",
-    "mcs_exit_3",
-    "ticket_exit_1",
-    "ticket_exit_2",
-    "begun_ticket",
-    "claimed_ticket",
-    "kept_ticket",
-    "linked_mcs",
-    "unlinked_mcs",
-    "crossed_flags",
-    "fair_test_and_set",
-    "free_test_and_set",
-];
+const NAMES: &str = "\
+bakery bakery_ruin exit_on_crash no_look no_ties renumber bakery_1974 burns dekker \
+forgetful_peterson lamport_fast no_turn one_word peterson peterson_order recoverable_peterson \
+szymanski anderson mcs recoverable_test_and_set recoverable_ticket test_and_set \
+test_and_test_and_set ticket board counter mcs_nil named narrow seats owner turnstile constructs \
+bounded golab_ramaraju yang_anderson homes clh corner golab_ramaraju_tournament peterson_tournament \
+table filter stairs bounded_peterson bounded_test_and_set bounded_ticket hurried_ticket \
+instant_test_and_set mcs_exit_3 ticket_exit_1 ticket_exit_2 begun_ticket claimed_ticket kept_ticket \
+linked_mcs unlinked_mcs crossed_flags fair_test_and_set free_test_and_set";
 
 /// A text as it is written: blocks that end in lines to which no run comes, gotos at the end of an `if`, and brackets.
 const BLOCKS: &str = "algorithm blocks for 2 to 4 processes
@@ -220,6 +167,13 @@ at11:
   done
 ";
 
+/// What an algorithm lacks.
+enum Lacking {
+    Line,
+    FirstValues,
+    FirstValue,
+}
+
 /// What is written of a text that is read. It is read again as the same algorithm.
 fn written_of<R: Abort>(rt: &R, alloc: Global, text: &[u8]) -> Result<String, Fail> {
     let read = read_algorithm(alloc, text)?;
@@ -233,16 +187,12 @@ fn written_of<R: Abort>(rt: &R, alloc: Global, text: &[u8]) -> Result<String, Fa
     Ok(written)
 }
 
+/// A text that is as it is written is written so again.
 #[test]
 fn texts_are_written_and_read_again(rt: HostRuntime) -> Result<(), Fail> {
-    for name in NAMES {
+    for name in NAMES.split(' ') {
         written_of(&rt, rt.alloc(), text_named(name))?;
     }
-    Ok(())
-}
-
-#[test]
-fn a_written_text_is_written_as_it_stands(rt: HostRuntime) -> Result<(), Fail> {
     for text in [BLOCKS, VALUES, EXTENTS, CLAIMS] {
         let written = written_of(&rt, rt.alloc(), text.as_bytes())?;
         assert!(rt; written.as_str() == text, "{written}");
@@ -250,27 +200,26 @@ fn a_written_text_is_written_as_it_stands(rt: HostRuntime) -> Result<(), Fail> {
     Ok(())
 }
 
-#[test]
-fn what_no_text_spells_is_refused(rt: HostRuntime) -> Result<(), Fail> {
-    let mut initialized = read_algorithm(rt.alloc(), text_named("peterson"))?;
-    initialized.algorithm.lines.pop();
-    let fault = write_algorithm(rt.alloc(), &initialized).err();
-    assert!(rt; fault == Some(WritingFault::NotSpelled), "{fault:?}");
-    Ok(())
+/// Whether the writing of an algorithm is refused that lacks its last line, its first values, or the last of them.
+fn is_refused(alloc: Global, name: &str, lacks: Lacking) -> Result<bool, Fail> {
+    let mut initialized = read_algorithm(alloc, text_named(name))?;
+    match lacks {
+        Lacking::Line => drop(initialized.algorithm.lines.pop()),
+        Lacking::FirstValues => initialized.first_values = None,
+        Lacking::FirstValue => {
+            if let Some(values) = &mut initialized.first_values {
+                values.starts.pop();
+            }
+        }
+    }
+    Ok(write_algorithm(alloc, &initialized).err() == Some(WritingFault::NotSpelled))
 }
 
 /// Where a constant is named or a first value is said, all algorithms of the text have first values.
 #[test]
-fn values_without_first_values_are_refused(rt: HostRuntime) -> Result<(), Fail> {
-    let mut initialized = read_algorithm(rt.alloc(), text_named("named"))?;
-    initialized.first_values = None;
-    let fault = write_algorithm(rt.alloc(), &initialized).err();
-    assert!(rt; fault == Some(WritingFault::NotSpelled), "{fault:?}");
-    let mut initialized = read_algorithm(rt.alloc(), text_named("seats"))?;
-    if let Some(values) = &mut initialized.first_values {
-        values.starts.pop();
-    }
-    let fault = write_algorithm(rt.alloc(), &initialized).err();
-    assert!(rt; fault == Some(WritingFault::NotSpelled), "{fault:?}");
+fn what_no_text_spells_is_refused(rt: HostRuntime) -> Result<(), Fail> {
+    assert!(rt; is_refused(rt.alloc(), "peterson", Lacking::Line)?);
+    assert!(rt; is_refused(rt.alloc(), "named", Lacking::FirstValues)?);
+    assert!(rt; is_refused(rt.alloc(), "seats", Lacking::FirstValue)?);
     Ok(())
 }

@@ -1,6 +1,7 @@
 //! Drawings of the Bakeries.
 
-pub const BAKERIES: &str = r"== bakery_1974
+pub const BAKERIES: &str = r"picture of bakeries
+== bakery_1974
 --
 0                         1                         |
 : w choosing[0]=1         .                         | begin 0

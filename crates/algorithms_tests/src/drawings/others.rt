@@ -1,6 +1,7 @@
 //! Drawings of the other locks.
 
-pub const OTHERS: &str = r"== peterson
+pub const OTHERS: &str = r"picture of other locks
+== peterson
 --
 0                         1                         |
 . w flag[0]=1             .                         |

@@ -1,6 +1,7 @@
 //! Replays of the Bakeries.
 
-pub const BAKERIES: &str = r"== bakery 3 2
+pub const BAKERIES: &str = r"run bakeries
+== bakery 3 2
 step 3 -> refused: no such process
 step 0 -> refused: nothing to do
 withdraw 0 -> refused: not waiting

@@ -1,6 +1,7 @@
 //! Replays of the other locks.
 
-pub const OTHERS: &str = r"== peterson 2 1
+pub const OTHERS: &str = r"run other locks
+== peterson 2 1
 step 2 -> refused: no such process
 step 0 -> refused: nothing to do
 withdraw 0 -> refused: no such call

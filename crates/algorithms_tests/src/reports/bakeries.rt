@@ -1,6 +1,7 @@
 //! Reports of bakeries.
 
-pub const BAKERIES: &str = r"== bakery
+pub const BAKERIES: &str = r"report of bakeries
+== bakery
 rme 1 procs 3 limit 3 cap 1
 lock 2
 lock 0

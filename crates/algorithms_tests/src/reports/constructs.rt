@@ -1,7 +1,8 @@
 //! The report of the text with each construct. What is computed is in its words, so that an operator, a comparison or a set of
 //! processes taken for another changes the report.
 
-pub const CONSTRUCTS: &str = r"== constructs
+pub const CONSTRUCTS: &str = r"report of each construct
+== constructs
 rme 1 procs 3 limit 7 cap 1
 recover 1
 step 1 9

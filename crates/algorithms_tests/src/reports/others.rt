@@ -1,6 +1,7 @@
 //! Reports of the other locks.
 
-pub const ONE_WORD: &str = r"== one_word
+pub const ONE_WORD: &str = r"report of one word
+== one_word
 rme 1 procs 3 limit 1 cap 1
 lock 0
 lock 1
@@ -52,7 +53,8 @@ words held 0
 verdict against 2 at 11
 ";
 
-pub const OTHERS: &str = r"== peterson
+pub const OTHERS: &str = r"report of other locks
+== peterson
 rme 1 procs 2 limit 1 cap 1
 lock 1
 crash 0

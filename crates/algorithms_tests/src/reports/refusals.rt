@@ -1,6 +1,7 @@
 //! Schedules of which a line is refused: its number, that of the refusal, and what the lines before it report.
 
-pub const REFUSALS: &str = r"== peterson
+pub const REFUSALS: &str = r"report of refusals
+== peterson
 rme 1 procs 3 limit 1 cap 1
 lock 0
 --

@@ -1,6 +1,7 @@
 //! Reports of wrong bakeries.
 
-pub const VARIANTS: &str = r"== no_look
+pub const VARIANTS: &str = r"report of wrong bakeries
+== no_look
 rme 1 procs 2 limit 3 cap 1
 lock 0
 lock 1

@@ -1,7 +1,6 @@
 //! Hunts, drawings and least schedules of algorithms: what they write, and what is refused.
 
-use crate::searches::named_texts::example_algorithms;
-use crate::support::invocation::{all_come_to, output_of, program_comes_to};
+use crate::support::invocation::output_of;
 use crate::support::row::text_named;
 use algorithms_tests::texts::others;
 use diagram::page_text::{PAGE_HEAD, PAGE_SCRIPT, PAGE_STEP};
@@ -177,7 +176,7 @@ fn hunted_schedules_are_made_least(rt: HostRuntime) -> Result<(), Fail> {
 }
 
 /// Words that are refused open no file.
-const COMMANDS_ON_AN_ALGORITHM: &str = "
+pub const COMMANDS_ON_AN_ALGORITHM: &str = "
 @row rmelab hunt --algorithm a.lock --seed 1 --rounds 1 --steps 3 --jobs 4 @file a.lock PETERSON @file b.rme ALONE @out
 nothing found
 @row rmelab hunt --algorithm a.lock --seed 1 --rounds 1 --steps 3 --shrink @file a.lock PETERSON @file b.rme ALONE @out NOTHING_FOUND
@@ -221,27 +220,20 @@ rmelab: line 1: refused 1
 ";
 
 /// Sessions that begin with the schedule of a file. The function `command` takes no such file.
-const SESSIONS_FROM_A_FILE: &str = "
+pub const SESSIONS_FROM_A_FILE: &str = "
+@program
 @row rmelab step --algorithm a.lock b.rme @file a.lock PETERSON @file b.rme ALONE @out BEGUN @in
 undo
 @row rmelab step --algorithm a.lock b.rme @file a.lock PETERSON @file b.rme REFUSED @err LINE_5 @ends 2 @in
 undo
 ";
 
-#[test]
-fn commands_on_an_algorithm(rt: HostRuntime) -> Result<(), Fail> {
-    let algorithms = example_algorithms(rt.alloc())?;
-    let texts = [algorithms.as_str(), TEXTS];
-    all_come_to(&rt, rt.alloc(), &texts, COMMANDS_ON_AN_ALGORITHM)?;
-    program_comes_to(&rt, rt.alloc(), &texts, SESSIONS_FROM_A_FILE)
-}
-
 /// A page is the drawing and the lines of a run between fixed parts.
 #[test]
 fn pages_of_an_algorithm(rt: HostRuntime) -> Result<(), Fail> {
     let algorithm = str::from_utf8(others::PETERSON)?;
     for name in ["ALONE", "REFUSED"] {
-        let schedule = text_named(&[TEXTS], name).unwrap_or("").as_bytes();
+        let schedule = text_named("", &[TEXTS], name).unwrap_or("").as_bytes();
         let status = if name == "ALONE" { 0 } else { 2 };
         let draw = "rmelab draw --algorithm a.lock --svg";
         let picture = output_of(&rt, rt.alloc(), draw, algorithm, schedule, status)?;
@@ -259,7 +251,9 @@ fn pages_of_an_algorithm(rt: HostRuntime) -> Result<(), Fail> {
     Ok(())
 }
 
-const COMMANDS_ON_AN_ALGORITHM_THAT_FAIL: &str = "
+/// A text at fault, a file that can't be read, and a device that fails.
+pub const COMMANDS_ON_AN_ALGORITHM_THAT_FAIL: &str = "
+@program
 @row rmelab hunt --algorithm a.lock --seed 1 --rounds 1 --steps 3 @in ALONE @file a.lock HIDDEN @ends 2 @err
 rmelab: algorithm line 6: fault 7: a second access in one line
 @row rmelab hunt --algorithm a.lock --seed 1 --rounds 1 --steps 3 @in ALONE @ends 3 @err UNREAD
@@ -286,15 +280,3 @@ rmelab: algorithm line 6: fault 7: a second access in one line
 @row rmelab step --algorithm a.lock @in HEADED @file a.lock PETERSON @fails read @out AT_REST @ends 3 @err UNREAD
 @row rmelab step --algorithm a.lock @in HEADED @file a.lock PETERSON @fails flush @out AT_REST @ends 3 @err UNWRITTEN
 ";
-
-/// A text at fault, a file that can't be read, and a device that fails.
-#[test]
-fn commands_on_an_algorithm_that_fail(rt: HostRuntime) -> Result<(), Fail> {
-    let algorithms = example_algorithms(rt.alloc())?;
-    program_comes_to(
-        &rt,
-        rt.alloc(),
-        &[algorithms.as_str(), TEXTS],
-        COMMANDS_ON_AN_ALGORITHM_THAT_FAIL,
-    )
-}

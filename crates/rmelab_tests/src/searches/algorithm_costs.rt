@@ -1,11 +1,6 @@
 //! The costs of algorithms. The schedules are those of the reference program of the format's second version, with the moves in the
 //! order in which `rmelab` tries them.
 
-use crate::searches::algorithm_commands;
-use crate::searches::named_texts::example_algorithms;
-use crate::support::invocation::{all_come_to, program_comes_to};
-use std::test::Fail;
-
 /// `COSTLY`: process 0 stores three times, and reads each of the other's words anew. `SHARED`: the other has read its flag before it
 /// stores again. `FREE`: nobody starts a lock. `ALONE_COSTS`: it reads the word, and stores twice. `SPINS`: it waits for itself.
 pub const TEXTS: &str = "
@@ -74,7 +69,7 @@ step 0
 process 0 passage cost unbounded cycle 1
 ";
 
-const COSTS: &str = "
+pub const COSTS: &str = "
 @row rmelab cost --algorithm a.lock --model write-through --procs 2 @file a.lock PETERSON @out COSTLY
 @row rmelab cost --algorithm a.lock --model write-back --procs 2 --super-passages @file a.lock PETERSON @out SHARED
 @row rmelab cost --algorithm a.lock --model write-back --procs 2 --calls unlock @file a.lock PETERSON @out FREE
@@ -88,18 +83,11 @@ rmelab: too many states
 @row rmelab cost --algorithm a.lock --model dsm --procs 2 --calls lock,close @ends 2 @err BAD_SIZE
 ";
 
-const COSTS_THAT_FAIL: &str = "
+pub const COSTS_THAT_FAIL: &str = "
+@program
 @row rmelab cost --algorithm a.lock --model dsm --procs 2 @file a.lock HIDDEN @ends 2 @err
 rmelab: algorithm line 6: fault 7: a second access in one line
 @row rmelab cost --algorithm a.lock --model dsm --procs 2 @ends 3 @err UNREAD
 @row rmelab cost --algorithm a.lock --model dsm --procs 2 @file a.lock PETERSON @fails file-read @ends 3 @err UNREAD
 @row rmelab cost --algorithm a.lock --model write-through --procs 2 @file a.lock PETERSON @fails write @ends 3 @err UNWRITTEN
 ";
-
-#[test]
-fn costs_of_an_algorithm(rt: HostRuntime) -> Result<(), Fail> {
-    let algorithms = example_algorithms(rt.alloc())?;
-    let texts = [algorithms.as_str(), TEXTS, algorithm_commands::TEXTS];
-    all_come_to(&rt, rt.alloc(), &texts, COSTS)?;
-    program_comes_to(&rt, rt.alloc(), &texts, COSTS_THAT_FAIL)
-}

@@ -1,6 +1,6 @@
 //! Hunts: what a seed finds, and the moves that it draws.
 
-use crate::support::invocation::{all_come_to, output_of, printed_by, words_of};
+use crate::support::invocation::{output_of, printed_by, words_of};
 use crate::support::row::ProgramRow;
 use std::alloc::Global;
 use std::process::ExitCode;
@@ -56,15 +56,6 @@ fn is_fine(
     Ok(code == ExitCode::from(0) || code == ExitCode::from(2))
 }
 
-const HUNT_SEEDS: &str = "
-@row rmelab hunt --variant right --seed 1 --rounds 100 --steps 1000 @out
-nothing found
-@row rmelab hunt --variant right --seed 1 --first-round 9900 --rounds 100 --steps 100 @out
-nothing found
-@row rmelab hunt --variant right --seed 1 --first-round 9901 --rounds 100 --steps 100 @ends 2 @err
-rmelab: bad size
-";
-
 /// What seed 1 finds of each wrong variant has a verdict against that variant, and none against the right lock.
 #[test]
 fn hunt_seeds(rt: HostRuntime) -> Result<(), Fail> {
@@ -73,11 +64,11 @@ fn hunt_seeds(rt: HostRuntime) -> Result<(), Fail> {
         let is_so = is_against(&rt, rt.alloc(), variant, &found)?;
         assert!(rt; is_so && is_fine(&rt, rt.alloc(), &found)?, "{variant}");
     }
-    all_come_to(&rt, rt.alloc(), &[TEXTS], HUNT_SEEDS)
+    Ok(())
 }
 
 /// The schedule that `running_judge/lab`, a program written by hand, draws by the same rule.
-const TEXTS: &str = "
+pub const HUNTS: &str = "
 @text DRAWN
 rme 1 procs 3 limit 1000000 cap 64
 lock 2
@@ -176,17 +167,15 @@ lock 2
 step 1
 step 0
 step 1
-";
-
-const MOVES_OF_A_HUNT: &str = "
 @row rmelab hunt --variant no-look --seed 70 --rounds 10000 --steps 1000 @out DRAWN @ends 1
 @row rmelab hunt --variant no-look --seed 70 --rounds 10000 --steps 1000 --jobs 1 @out DRAWN @ends 1
 @row rmelab hunt --variant no-look --seed 70 --rounds 10000 --steps 1000 --jobs 2 @out DRAWN @ends 1
 @row rmelab hunt --variant no-look --seed 70 --rounds 10000 --steps 1000 --jobs 3 @out DRAWN @ends 1
 @row rmelab hunt --variant no-look --seed 70 --rounds 10000 --steps 1000 --jobs 7 @out DRAWN @ends 1
+@row rmelab hunt --variant right --seed 1 --rounds 100 --steps 1000 @out
+nothing found
+@row rmelab hunt --variant right --seed 1 --first-round 9900 --rounds 100 --steps 100 @out
+nothing found
+@row rmelab hunt --variant right --seed 1 --first-round 9901 --rounds 100 --steps 100 @ends 2 @err
+rmelab: bad size
 ";
-
-#[test]
-fn moves_of_a_hunt(rt: HostRuntime) -> Result<(), Fail> {
-    all_come_to(&rt, rt.alloc(), &[TEXTS], MOVES_OF_A_HUNT)
-}

@@ -35,7 +35,7 @@ rmelab: read failed
 rmelab: write failed
 ";
 
-const SHRINKS: &str = "
+pub const SHRINKS: &str = "
 @row rmelab shrink --variant no-look @in TWO_INSIDE @out LEAST @ends 1
 @row rmelab shrink --variant no-look @in LEAST @out LEAST @ends 1
 @row rmelab shrink --variant no-look s.rme @in OTHER @file s.rme TWO_INSIDE @out LEAST @ends 1
@@ -68,11 +68,6 @@ rmelab: bad variant
 rmelab: out of memory
 ";
 
-#[test]
-fn shrinks(rt: HostRuntime) -> Result<(), Fail> {
-    all_come_to(&rt, rt.alloc(), &[TEXTS], SHRINKS)
-}
-
 /// What `hunt --shrink` writes is what `shrink` makes of the schedule that the same hunt writes.
 fn shrinks_what_it_finds(
     rt: &(impl Threads + Wait + Sync),
@@ -89,7 +84,7 @@ fn shrinks_what_it_finds(
     all_come_to(rt, alloc, &[], &row)
 }
 
-const HUNTS_SHRUNK: &str = "
+pub const HUNTS_SHRUNK: &str = "
 @row rmelab hunt --shrink --variant right --seed 1 --rounds 1 --steps 100 @out
 nothing found
 ";
@@ -99,5 +94,5 @@ fn hunts_shrunk(rt: HostRuntime) -> Result<(), Fail> {
     for variant in ["no-look", "exit-on-crash"] {
         shrinks_what_it_finds(&rt, rt.alloc(), variant)?;
     }
-    all_come_to(&rt, rt.alloc(), &[TEXTS], HUNTS_SHRUNK)
+    Ok(())
 }

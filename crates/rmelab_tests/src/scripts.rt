@@ -86,11 +86,10 @@ fn commands_on_algorithms(rt: HostRuntime) -> Result<(), Fail> {
 }
 
 /// Hunts and searches of the lock, and schedules that are shrunk.
-const SEARCHES: [&str; 5] = [
+const SEARCHES: [&str; 4] = [
     explores::EXPLORES,
     hunts::HUNTS,
     shrinks::SHRINKS,
-    shrinks::HUNTS_SHRUNK,
     watched::SHOWN,
 ];
 

@@ -5,7 +5,6 @@ use crate::support::row::text_named;
 use algorithms_tests::texts::others;
 use diagram::page_text::{PAGE_HEAD, PAGE_SCRIPT, PAGE_STEP};
 use std::alloc::Global;
-use std::process::Abort;
 use std::sync::Wait;
 use std::test::Fail;
 use std::thread::Threads;
@@ -137,34 +136,48 @@ words turn 1
 verdict fine
 ";
 
-/// What a hunt finds is made least, and both go wrong in a replay.
+/// A hunt, by threads, and with what it finds made least.
+const HUNTS: [&str; 4] = [
+    "rmelab hunt --algorithm a.lock --seed 1 --rounds 1000 --steps 100",
+    "rmelab hunt --algorithm a.lock --seed 1 --rounds 1000 --steps 100 --jobs 1",
+    "rmelab hunt --algorithm a.lock --seed 1 --rounds 1000 --steps 100 --jobs 3",
+    "rmelab hunt --algorithm a.lock --seed 1 --rounds 1000 --steps 100 --shrink",
+];
+
+const REPLAY: &str = "rmelab replay --algorithm a.lock";
+
+const SHRINK: &str = "rmelab shrink --algorithm a.lock";
+
+/// Whether a hunt by these words writes the same over this algorithm.
+fn finds(
+    rt: &(impl Threads + Wait + Sync),
+    alloc: Global,
+    line: &str,
+    text: &str,
+    schedule: &[u8],
+) -> Result<bool, Fail> {
+    let found = output_of(rt, alloc, line, text, b"", 1)?;
+    Ok(found.as_slice() == schedule)
+}
+
+/// Whether what a hunt finds is found by threads too, and is made least. Both go wrong in a replay.
 fn is_made_least(
-    rt: &(impl Threads + Wait + Sync + Abort),
+    rt: &(impl Threads + Wait + Sync),
     alloc: Global,
     text: &[u8],
 ) -> Result<bool, Fail> {
     let text = str::from_utf8(text)?;
-    let hunt = "rmelab hunt --algorithm a.lock --seed 1 --rounds 1000 --steps 100";
-    let replay = "rmelab replay --algorithm a.lock";
+    let [hunt, by_one, by_three, at_once] = HUNTS;
     let found = output_of(rt, alloc, hunt, text, b"", 1)?;
-    output_of(rt, alloc, replay, text, &found, 1)?;
-    let least = output_of(
-        rt,
-        alloc,
-        "rmelab shrink --algorithm a.lock",
-        text,
-        &found,
-        1,
-    )?;
-    output_of(rt, alloc, replay, text, &least, 1)?;
-    let at_once = format!(in alloc; "{hunt} --shrink")?;
-    let found_least = output_of(rt, alloc, &at_once, text, b"", 1)?;
-    for jobs in ["1", "3"] {
-        let by_threads = format!(in alloc; "{hunt} --jobs {jobs}")?;
-        let found_by_threads = output_of(rt, alloc, &by_threads, text, b"", 1)?;
-        assert!(rt; found_by_threads == found);
-    }
-    Ok(least.len() < found.len() && found_least == least)
+    let by_threads = finds(rt, alloc, by_one, text, &found)?
+        && finds(rt, alloc, by_three, text, &found)?;
+    output_of(rt, alloc, REPLAY, text, &found, 1)?;
+    let least = output_of(rt, alloc, SHRINK, text, &found, 1)?;
+    let is_shorter = least.len() < found.len();
+    drop(found);
+    output_of(rt, alloc, REPLAY, text, &least, 1)?;
+    let is_so = finds(rt, alloc, at_once, text, &least)?;
+    Ok(by_threads && is_shorter && is_so)
 }
 
 #[test]

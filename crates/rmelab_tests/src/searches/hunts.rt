@@ -1,6 +1,6 @@
 //! Hunts: what a seed finds, and the moves that it draws.
 
-use crate::support::invocation::{output_of, printed_by, words_of};
+use crate::support::invocation::{all_come_to, output_of, printed_by, words_of};
 use crate::support::row::ProgramRow;
 use std::alloc::Global;
 use std::process::ExitCode;
@@ -18,7 +18,7 @@ const WRONG: [&str; 6] = [
 ];
 
 /// What seed 1 finds of this wrong variant.
-pub fn hunted(
+fn hunted(
     rt: &(impl Threads + Wait + Sync),
     alloc: Global,
     variant: &str,
@@ -56,13 +56,33 @@ fn is_fine(
     Ok(code == ExitCode::from(0) || code == ExitCode::from(2))
 }
 
-/// What seed 1 finds of each wrong variant has a verdict against that variant, and none against the right lock.
+/// What `hunt --shrink` writes is what `shrink` makes of the schedule that the same hunt writes.
+fn shrinks_what_it_finds(
+    rt: &(impl Threads + Wait + Sync),
+    alloc: Global,
+    variant: &str,
+    found: &[u8],
+) -> Result<(), Fail> {
+    let line = format!(in alloc; "rmelab shrink --variant {variant}")?;
+    let least = output_of(rt, alloc, &line, "", found, 1)?;
+    let least = str::from_utf8(&least)?;
+    let row = format!(in alloc;
+        "@row rmelab hunt --shrink --variant {variant} --seed 1 --rounds 10000 --steps 1000 @ends 1 @out\n{least}"
+    )?;
+    all_come_to(rt, alloc, &[], &row)
+}
+
+/// What seed 1 finds of each wrong variant has a verdict against that variant, and none against the right lock. Of two it is made
+/// least.
 #[test]
 fn hunt_seeds(rt: HostRuntime) -> Result<(), Fail> {
     for variant in WRONG {
         let found = hunted(&rt, rt.alloc(), variant)?;
         let is_so = is_against(&rt, rt.alloc(), variant, &found)?;
         assert!(rt; is_so && is_fine(&rt, rt.alloc(), &found)?, "{variant}");
+        if variant == "no-look" || variant == "exit-on-crash" {
+            shrinks_what_it_finds(&rt, rt.alloc(), variant, &found)?;
+        }
     }
     Ok(())
 }

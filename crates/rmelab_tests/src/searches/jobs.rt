@@ -1,6 +1,7 @@
 //! A hunt or a search by any number of threads answers what that of one thread answers.
 
 use crate::support::watching::Report;
+use crashlab::hunts::hunt_watched;
 use crashlab::{HuntFault, Variant, hunt, hunt_in_parallel, hunt_in_parallel_watched};
 use explorer::Unwatched;
 use lock_explorer::{Bounds, Variables, shortest_schedule, shortest_schedule_in_parallel};
@@ -106,7 +107,12 @@ fn is_reported_once(
 }
 
 #[test]
-fn each_round_of_a_batch_is_reported_once(rt: HostRuntime) -> Result<(), Fail> {
+fn each_round_is_reported_once(rt: HostRuntime) -> Result<(), Fail> {
+    let mut reports = Report::new(rt.alloc());
+    let found = hunt_watched(rt.alloc(), Variant::Right, 1, 4, 10, &mut reports)?;
+    let rounds = [(0, 0), (1, 10), (2, 20), (3, 30)];
+    assert!(rt; found.is_none() && reports.all.as_slice() == rounds.as_slice());
+    drop(reports);
     for jobs in JOBS {
         assert!(rt; is_reported_once(&rt, rt.alloc(), jobs)?, "{jobs}");
     }
@@ -122,15 +128,6 @@ const SEARCHES: [(Variant, u64, u64, u64); 6] = [
     (Variant::Renumber, 2, 1, 3),
     (Variant::ExitOnCrash, 2, 1, 1),
 ];
-
-/// The layout of a mailbox with one entry of one word for each process.
-fn least_mailbox(procs: u64) -> Layout {
-    Layout {
-        procs,
-        cap: 1,
-        width: 1,
-    }
-}
 
 const BOUNDS: Bounds = Bounds {
     crashes: 0,
@@ -180,14 +177,18 @@ fn searches_the_same(
     one.is_ok()
 }
 
-/// Plays each search, with states distinguished by these variables. None: each answers the same by several jobs.
+/// Plays each search, over a mailbox with one entry of one word for each process, with states distinguished by these variables. None: each answers the same by several jobs.
 fn first_different(
     rt: &(impl Threads + Sync),
     alloc: Global,
     variables: Variables,
 ) -> Option<Variant> {
     for (variant, procs, crashes, limit) in SEARCHES {
-        let layout = least_mailbox(procs);
+        let layout = Layout {
+            procs,
+            cap: 1,
+            width: 1,
+        };
         let bounds = Bounds { crashes, ..BOUNDS };
         if !searches_the_same(rt, alloc, variant, layout, limit, variables, &bounds) {
             return Some(variant);

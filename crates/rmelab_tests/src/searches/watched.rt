@@ -1,18 +1,4 @@
-//! The progress of a search or a hunt, as it is reported and as it is shown.
-
-use crate::support::watching::Report;
-use crashlab::Variant;
-use crashlab::hunts::hunt_watched;
-use std::test::Fail;
-
-#[test]
-fn each_round_is_reported_once(rt: HostRuntime) -> Result<(), Fail> {
-    let mut reports = Report::new(rt.alloc());
-    let found = hunt_watched(rt.alloc(), Variant::Right, 1, 4, 10, &mut reports)?;
-    let rounds = [(0, 0), (1, 10), (2, 20), (3, 30)];
-    assert!(rt; found.is_none() && reports.all.as_slice() == rounds.as_slice());
-    Ok(())
-}
+//! The progress of a search or a hunt, as it is shown.
 
 /// The clock is read when the work begins, and then at each 64th state or round. Each tenth reading after the first one is
 /// another second later. So progress is shown before the 640th and the 1280th round, and when the 640th state is tried. The

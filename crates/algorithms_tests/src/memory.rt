@@ -98,6 +98,14 @@ fn called(
     }
 }
 
+/// What stands before the first zero.
+fn before_zeros(bytes: &[u8]) -> &[u8] {
+    match bytes.iter().position(|byte| *byte == 0) {
+        Some(end) => &bytes[..end],
+        None => bytes,
+    }
+}
+
 /// Whether this is what may be written where memory was refused: nothing, or of a drawing a beginning.
 fn may_be_written(kind: Kind, written: &[u8], whole: &[u8]) -> bool {
     let is_beginning = written != whole && whole.starts_with(written);
@@ -121,8 +129,7 @@ fn refusals(
         };
         let mut printed = [0u8; 1024];
         let came = called(alloc, kind, algorithm, schedule, &mut printed);
-        let end = printed.iter().position(|byte| *byte == 0).unwrap_or(1024);
-        let written = &printed[..end];
+        let written = before_zeros(&printed);
         match came {
             Outcome::Lines(lines) if written == whole => return (refused, Some(lines)),
             Outcome::OutOfMemory if may_be_written(kind, written, whole) => {}

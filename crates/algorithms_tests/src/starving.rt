@@ -10,7 +10,7 @@ use std::fmt::Write;
 use std::test::Fail;
 
 pub const NOBODY: &str = "\
-starve: nobody\n\
+starve nobody\n\
 == peterson 2 1 0 none\n--\n58 worlds\n\
 == recoverable_peterson 2 1 0 none\n--\n116 worlds\n\
 == dekker 2 1 0 none\n--\n134 worlds\n\
@@ -29,7 +29,7 @@ starve: nobody\n\
 ";
 
 pub const SOMEBODY: &str = "\
-starve: somebody\n\
+starve somebody\n\
 == burns 2 1 0 none\n--\n1 starves, stem 1, cycle 8\n\
 == burns 3 1 0 none\n--\n1 starves, stem 1, cycle 9\n\
 == no_turn 2 1 0 none\n--\n0 starves, stem 4, cycle 2\n\

@@ -167,13 +167,6 @@ at11:
   done
 ";
 
-/// What an algorithm lacks.
-enum Lacking {
-    Line,
-    FirstValues,
-    FirstValue,
-}
-
 /// What is written of a text that is read. It is read again as the same algorithm.
 fn written_of<R: Abort>(rt: &R, alloc: Global, text: &[u8]) -> Result<String, Fail> {
     let read = read_algorithm(alloc, text)?;
@@ -200,17 +193,16 @@ fn texts_are_written_and_read_again(rt: HostRuntime) -> Result<(), Fail> {
     Ok(())
 }
 
-/// Whether the writing of an algorithm is refused that lacks its last line, its first values, or the last of them.
-fn is_refused(alloc: Global, name: &str, lacks: Lacking) -> Result<bool, Fail> {
+/// Whether the writing is refused of `peterson` without its last line, of `named` without first values, or of another algorithm
+/// without the last of these.
+fn is_refused(alloc: Global, name: &str) -> Result<bool, Fail> {
     let mut initialized = read_algorithm(alloc, text_named(name))?;
-    match lacks {
-        Lacking::Line => drop(initialized.algorithm.lines.pop()),
-        Lacking::FirstValues => initialized.first_values = None,
-        Lacking::FirstValue => {
-            if let Some(values) = &mut initialized.first_values {
-                values.starts.pop();
-            }
-        }
+    if name == "peterson" {
+        initialized.algorithm.lines.pop();
+    } else if name == "named" {
+        initialized.first_values = None;
+    } else if let Some(values) = &mut initialized.first_values {
+        values.starts.pop();
     }
     Ok(write_algorithm(alloc, &initialized).err() == Some(WritingFault::NotSpelled))
 }
@@ -218,8 +210,8 @@ fn is_refused(alloc: Global, name: &str, lacks: Lacking) -> Result<bool, Fail> {
 /// Where a constant is named or a first value is said, all algorithms of the text have first values.
 #[test]
 fn what_no_text_spells_is_refused(rt: HostRuntime) -> Result<(), Fail> {
-    assert!(rt; is_refused(rt.alloc(), "peterson", Lacking::Line)?);
-    assert!(rt; is_refused(rt.alloc(), "named", Lacking::FirstValues)?);
-    assert!(rt; is_refused(rt.alloc(), "seats", Lacking::FirstValue)?);
+    for name in ["peterson", "named", "seats"] {
+        assert!(rt; is_refused(rt.alloc(), name)?, "{name}");
+    }
     Ok(())
 }

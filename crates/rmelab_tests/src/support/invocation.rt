@@ -92,7 +92,7 @@ pub fn all_written(line: &str, places: &[(&str, &[u8], &str)]) -> Result<(), Fai
     for (place, found, wanted) in places {
         if *found != wanted.as_bytes() {
             let found = str::from_utf8(found).unwrap_or("no text");
-            return Err(Fail::new(format_args!("{line}: {place}: {found}in place of: {wanted}")));
+            return Err(Fail::new(format_args!("{line}: {place}: {found}\nin place of: {wanted}")));
         }
     }
     Ok(())

@@ -1,6 +1,6 @@
 //! Tests of the program: whole invocations over a folder in memory; and each request for memory is refused in turn.
 //!
-//! Main items: `program`, `replays`, `scripts`, `searches`.
+//! Main items: `replays`, `scripts`, `searches`.
 #![tactic(auto)]
 
 #[cfg(test)]

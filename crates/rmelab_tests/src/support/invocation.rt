@@ -36,6 +36,15 @@ pub struct Printed {
     pub code: ExitCode,
 }
 
+/// A writer that keeps what is written into this text, or fails.
+fn paper<'a>(text: &'a mut Vec<u8>, fails: bool) -> Paper<'a> {
+    Paper {
+        text,
+        fails,
+        flush_fails: false,
+    }
+}
+
 /// Runs the program on these words, and otherwise as the row says.
 pub fn printed_by(
     rt: &(impl Threads + Wait + Sync),
@@ -52,18 +61,10 @@ pub fn printed_by(
         fails: row.failing == Failing::Write,
         flush_fails: row.failing == Failing::Flush,
     };
-    let errors = Paper {
-        text: &mut err,
-        fails: row.failing == Failing::Report,
-        flush_fails: false,
-    };
+    let errors = paper(&mut err, row.failing == Failing::Report);
     let clock = Ticking::new();
     let mut shown = Vec::new(alloc);
-    let lines = Paper {
-        text: &mut shown,
-        fails: row.failing == Failing::Shown,
-        flush_fails: false,
-    };
+    let lines = paper(&mut shown, row.failing == Failing::Shown);
     let mut screen = Terminal::new(&clock, lines, row.is_terminal);
     let code = run_program(
         rt,

@@ -24,22 +24,30 @@ use algorithm_texts::read_algorithm;
 use algorithms::AlgorithmFault;
 use std::test::Fail;
 
-/// Texts that are read, and those of which a line is at fault.
-const READ: [&str; 20] = [
-    arrays::BAD,
-    arrays::GOOD,
+/// Texts that are read, and those that ask for much or of which a line is at fault.
+const READ: [&str; 4] = [
     bad_texts::BAD,
     bad_texts::GOOD,
-    claims::BAD,
-    claims::GOOD,
+    hostile_texts::HOSTILE,
+    hostile_texts::LONG,
+];
+
+/// The same of declarations.
+const DECLARED: [&str; 8] = [
+    arrays::BAD,
+    arrays::GOOD,
     constants::BAD,
     constants::GOOD,
     first_values::BAD,
     first_values::GOOD,
     homes::BAD,
     homes::GOOD,
-    hostile_texts::HOSTILE,
-    hostile_texts::LONG,
+];
+
+/// The same of lines and of claims.
+const SAID: [&str; 8] = [
+    claims::BAD,
+    claims::GOOD,
     loops::BAD,
     loops::GOOD,
     step_bounds::BAD,
@@ -62,24 +70,28 @@ const SPELLED: [&str; 10] = [
     swaps::SPELLED,
 ];
 
-/// Runs, reports and sessions.
-const REPLAYED: [&str; 17] = [
+/// Runs, move by move, and sessions.
+const RUN: [&str; 9] = [
     arrays::RUNS,
-    claims::REPORTS,
-    constructs::CONSTRUCTS,
     first_values::RUNS,
     loops::RUNS,
     other_replays::OTHERS,
+    remote_references::RUNS,
+    replays::BAKERIES,
+    sessions::PETERSON,
+    sessions::REFUSED,
+    swaps::RUNS,
+];
+
+/// Reports of replays.
+const REPORTED: [&str; 8] = [
+    claims::REPORTS,
+    constructs::CONSTRUCTS,
     other_reports::ONE_WORD,
     other_reports::OTHERS,
     refusals::REFUSALS,
-    remote_references::RUNS,
-    replays::BAKERIES,
     reports::BAKERIES,
-    sessions::PETERSON,
-    sessions::REFUSED,
     step_bounds::REPORTS,
-    swaps::RUNS,
     variants::VARIANTS,
 ];
 
@@ -144,6 +156,22 @@ fn texts_are_read(rt: HostRuntime) -> Result<(), Fail> {
     Ok(())
 }
 
+#[test]
+fn declarations_are_read(rt: HostRuntime) -> Result<(), Fail> {
+    for table in DECLARED {
+        compare_cases(rt.alloc(), table)?;
+    }
+    Ok(())
+}
+
+#[test]
+fn lines_and_claims_are_read(rt: HostRuntime) -> Result<(), Fail> {
+    for table in SAID {
+        compare_cases(rt.alloc(), table)?;
+    }
+    Ok(())
+}
+
 /// Also the laws that speak of what texts spell.
 #[test]
 fn texts_are_spelled(rt: HostRuntime) -> Result<(), Fail> {
@@ -165,8 +193,16 @@ fn texts_are_spelled(rt: HostRuntime) -> Result<(), Fail> {
 }
 
 #[test]
-fn schedules_are_replayed(rt: HostRuntime) -> Result<(), Fail> {
-    for table in REPLAYED {
+fn runs_and_sessions(rt: HostRuntime) -> Result<(), Fail> {
+    for table in RUN {
+        compare_cases(rt.alloc(), table)?;
+    }
+    Ok(())
+}
+
+#[test]
+fn replays_are_reported(rt: HostRuntime) -> Result<(), Fail> {
+    for table in REPORTED {
         compare_cases(rt.alloc(), table)?;
     }
     Ok(())

@@ -1,6 +1,5 @@
 //! All scripts of whole invocations, by the crates that they are about. A script stands in the file of what it is about.
 
-use crate::arguments::helps;
 use crate::program::{drawings, explains, invocations, senders};
 use crate::replays::{
     devices, everything, images, replays, reports, sessions, stepwise, texts, variants,
@@ -12,34 +11,44 @@ use crate::searches::{
 use crate::support::invocation::all_come_to;
 use std::test::Fail;
 
-/// Replays, traces and sessions.
-const REPLAYS: [&str; 10] = [
+/// Replays and traces.
+const REPLAYS: [&str; 7] = [
     devices::DEVICES_AND_FILES_THAT_FAIL,
     everything::CRASH_OF_EVERYTHING,
     images::IMAGES,
     replays::REPLAYS,
     reports::REPORTS_AND_IMAGES,
-    sessions::SESSIONS,
-    sessions::A_SESSION_IS_SAVED,
-    stepwise::REPLAYS_STEP_BY_STEP,
     texts::HOSTILE_TEXTS,
     variants::VARIANTS_AND_TRACES,
 ];
 
+/// Sessions, and replays with each step.
+const SESSIONS: [&str; 3] = [
+    sessions::SESSIONS,
+    sessions::A_SESSION_IS_SAVED,
+    stepwise::REPLAYS_STEP_BY_STEP,
+];
+
 #[test]
-fn replays_and_sessions(rt: HostRuntime) -> Result<(), Fail> {
+fn replays_and_traces(rt: HostRuntime) -> Result<(), Fail> {
     for script in REPLAYS {
-        let texts = [reports::TEXTS, sessions::TEXTS, stepwise::TEXTS];
-        all_come_to(&rt, rt.alloc(), &texts, script)?;
+        all_come_to(&rt, rt.alloc(), &[reports::TEXTS], script)?;
     }
     Ok(())
 }
 
-/// Drawings, explanations, senders, help, and words that are refused.
-const OTHERS: [&str; 5] = [
+#[test]
+fn sessions_and_steps(rt: HostRuntime) -> Result<(), Fail> {
+    for script in SESSIONS {
+        all_come_to(&rt, rt.alloc(), &[sessions::TEXTS, stepwise::TEXTS], script)?;
+    }
+    Ok(())
+}
+
+/// Drawings, explanations, senders, and words that are refused.
+const OTHERS: [&str; 4] = [
     drawings::DRAWINGS,
     explains::EXPLANATIONS,
-    helps::HELPS_AND_WRONG_WORDS,
     invocations::REPORTS_AND_REFUSALS,
     senders::FOUR_SENDERS,
 ];

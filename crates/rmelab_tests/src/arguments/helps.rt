@@ -1,6 +1,9 @@
 //! What `clap` prints: the help of the program and of each command, and the errors for bad words.
 
-pub const HELPS_AND_WRONG_WORDS: &str = "
+use crate::support::invocation::all_come_to;
+use std::test::Fail;
+
+const HELPS_AND_WRONG_WORDS: &str = "
 @text HELP
 A laboratory of recoverable first-come first-served locks
 
@@ -313,3 +316,8 @@ error: invalid value 'x' for '--rounds <R>': invalid digit found in string
 
 For more information, try '--help'.
 ";
+
+#[test]
+fn helps_and_wrong_words(rt: HostRuntime) -> Result<(), Fail> {
+    all_come_to(&rt, rt.alloc(), &[], HELPS_AND_WRONG_WORDS)
+}

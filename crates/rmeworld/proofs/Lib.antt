@@ -1,6 +1,7 @@
 pub mod Common
 pub mod ImageRules
 pub mod Mapped
+pub mod IndexedLists
 pub mod Entries
 pub mod Chores
 pub mod Projection

@@ -15,6 +15,48 @@ length-padded n xs h = omega (arith, length-append xs (zeros (n - length xs)), l
 length-words_from : (i n : ℕ) (xs : List ℕ) → i + n ≤ length xs → length (words_from i n xs) ≡ n
 length-words_from i n xs h = omega (arith, length-take n (drop i xs), length-drop i xs)
 
+-- the lists that the parts of a wider image append
+pub padded_from : (before between after xs : List ℕ) (i n wide : ℕ) → i + n ≤ length xs → between ≡ before ++ words_from i n xs → after ≡ between ++ zeros (wide - n)
+    → after ≡ before ++ padded_words wide (words_from i n xs)
+padded_from before between after xs i n wide h e f =
+    let part = words_from i n xs in
+    f
+    ∙ ap (λ ys. ys ++ zeros (wide - n)) e
+    ∙ append_assoc before part (zeros (wide - n))
+    ∙ ap (λ k. before ++ (part ++ zeros (wide - k))) (sym (length-words_from i n xs h))
+
+pub place_from : (before between after xs : List ℕ) (l : Layout) (wide a at : ℕ) → at ≡ place_at l a → between ≡ before ++ words_from at 2 xs
+    → after ≡ between ++ padded_words wide (words_from (at + 2) l.width xs)
+    → after ≡ before ++ wide_place l wide xs a
+place_from before between after xs l wide a at same e f =
+    let value = padded_words wide (words_from (at + 2) l.width xs) in
+    f
+    ∙ ap (λ ys. ys ++ value) e
+    ∙ append_assoc before (words_from at 2 xs) value
+    ∙ ap (λ k. before ++ (words_from k 2 xs ++ padded_words wide (words_from (k + 2) l.width xs))) same
+
+pub front_from : (before one two after xs : List ℕ) (l : Layout) (wide : ℕ) → one ≡ before ++ words_from 0 6 xs
+    → two ≡ one ++ padded_words wide (words_from 6 l.width xs)
+    → after ≡ two ++ words_from (6 + l.width) (4 + l.procs) xs
+    → after ≡ before ++ wide_words l wide xs 0
+front_from before one two after xs l wide e f g =
+    let head = words_from 0 6 xs in
+    let value = padded_words wide (words_from 6 l.width xs) in
+    let others = words_from (6 + l.width) (4 + l.procs) xs in
+    g
+    ∙ ap (λ ys. ys ++ others) (f ∙ ap (λ ys. ys ++ value) e ∙ append_assoc before head value)
+    ∙ append_assoc before (head ++ value) others
+
+pub one_place_more : (before between after xs : List ℕ) (l : Layout) (wide a : ℕ) → between ≡ before ++ wide_words l wide xs a
+    → after ≡ between ++ wide_place l wide xs a
+    → after ≡ before ++ wide_words l wide xs (a + 1)
+one_place_more before between after xs l wide a e f =
+    let next : suc a ≡ a + 1 = omega arith in
+    f
+    ∙ ap (λ ys. ys ++ wide_place l wide xs a) e
+    ∙ append_assoc before (wide_words l wide xs a) (wide_place l wide xs a)
+    ∙ ap (λ k. before ++ wide_words l wide xs k) next
+
 -- a range between two lists
 row_between : (front bs cs ys : List ℕ) (i n : ℕ) → ys ≡ front ++ (bs ++ cs) → length front ≡ i → length bs ≡ n → row (words_of ys) i n ≡ bs
 row_between front bs cs ys i n e a b =

@@ -67,7 +67,7 @@ fn all_at_rest(alloc: Global, layout: Layout, limit: u64) -> Result<Vec<Process>
 {
     let mut processes = Vec::with_capacity(alloc, layout.procs as usize)?;
     for index in 0..layout.procs {
-        processes.push(Process::new(layout, limit, index))?;
+        processes.push_reserved(Process::new(layout, limit, index));
     }
     Ok(processes)
 }
@@ -84,7 +84,7 @@ fn all_crashed(alloc: Global, layout: Layout, limit: u64) -> Result<Vec<Process>
     for index in 0..layout.procs {
         let mut process = Process::new(layout, limit, index);
         process.crash();
-        processes.push(process)?;
+        processes.push_reserved(process);
     }
     Ok(processes)
 }
@@ -96,11 +96,11 @@ fn all_unstarted(alloc: Global, words: &[Own]) -> Result<Vec<Tally>, Refusal>
 {
     let mut tallies = Vec::with_capacity(alloc, words.len())?;
     for own in words {
-        tallies.push(Tally {
+        tallies.push_reserved(Tally {
             steps: 0,
             blocked: 0,
             began: *own,
-        })?;
+        });
     }
     Ok(tallies)
 }

@@ -1,10 +1,11 @@
 //! Making images wider.
 
 ghost use Rattle.std.specs.Prelude.{◌≡◌, ◌<◌, ◌≤◌, ◌+◌, ◌++◌, IfOk, IfErr, OnOk, length};
+ghost use Rattle.rmecore.specs.Body.{zeros};
 ghost use Rattle.redomail.specs.Content.{HeadsHold};
 ghost use Rattle.rmeworld.specs.ImageRules.{IsLawfulImage};
 ghost use Rattle.rmeworld.specs.ImageWiden.{padded_words, IsWider, IsUnwidened};
-ghost use Rattle.rmeworld.specs.WideWords.{wide_words, wide_place};
+ghost use Rattle.rmeworld.specs.WideWords.{words_from, wide_words, wide_place};
 
 use crate::cells::DataWords;
 use crate::image::Image;
@@ -69,11 +70,28 @@ fn wide_cells(
     ensures { IfOk result (λ cells. cells.items ≡ wide_words layout width words.now layout.cap) }
 {
     let mut cells = Vec::with_capacity(alloc, words.len())?;
-    push_front(&mut cells, layout, words, width)?;
-    for a in 0..layout.cap {
-        push_place(&mut cells, layout, words, a, width)?;
-    }
+    push_all(&mut cells, layout, words, width)?;
     Ok(cells)
+}
+
+/// Appends the data words, with wider values.
+fn push_all(
+    cells: &mut Vec<u64>,
+    layout: Layout,
+    words: &[u64],
+    width: u64,
+) -> Result<(), AllocError>
+    requires heads { HeadsHold layout words.now }
+    requires few { layout.procs ≤ 64 }
+    requires long { 10 + layout.width + layout.procs ≤ length words.now }
+    requires wide { layout.width ≤ width }
+    ensures { OnOk result (cells.new.items ≡ cells.old.items ++ wide_words layout width words.now layout.cap) }
+{
+    push_front(cells, layout, words, width)?;
+    for a in 0..layout.cap {
+        push_place(cells, layout, words, a, width)?;
+    }
+    Ok(())
 }
 
 /// Appends the words before the first place.
@@ -89,12 +107,9 @@ fn push_front(
     requires wide { layout.width ≤ width }
     ensures { OnOk result (cells.new.items ≡ cells.old.items ++ wide_words layout width words.now 0) }
 {
-    let board = 6 + layout.width as usize;
-    let others = 4 + layout.procs as usize;
-    cells.extend_from_slice(&words[..6])?;
-    push_wide(cells, &words[6..board], width)?;
-    cells.extend_from_slice(&words[board..board + others])?;
-    Ok(())
+    push_part(cells, words, 0, 6)?;
+    push_wide(cells, words, 6, layout.width, width)?;
+    push_part(cells, words, 6 + layout.width, 4 + layout.procs)
 }
 
 /// Appends the words of place `a`.
@@ -110,20 +125,41 @@ fn push_place(
     requires wide { layout.width ≤ width }
     ensures { OnOk result (cells.new.items ≡ cells.old.items ++ wide_place layout width words.now a) }
 {
-    let at = place(layout, words, a) as usize;
-    let value_at = at + 2;
-    let end = value_at + layout.width as usize;
-    cells.extend_from_slice(&words[at..value_at])?;
-    push_wide(cells, &words[value_at..end], width)
+    let at = place(layout, words, a);
+    push_part(cells, words, at, 2)?;
+    push_wide(cells, words, at + 2, layout.width, width)
 }
 
-/// Appends a value, with words 0 at its end.
-fn push_wide(cells: &mut Vec<u64>, value: &[u64], width: u64) -> Result<(), AllocError>
-    requires { length value.now ≤ width }
-    ensures { OnOk result (cells.new.items ≡ cells.old.items ++ padded_words width value.now) }
+/// Appends the `count` words from index `at` on.
+fn push_part(cells: &mut Vec<u64>, words: &[u64], at: u64, count: u64) -> Result<(), AllocError>
+    requires { at + count ≤ length words.now }
+    ensures { OnOk result (cells.new.items ≡ cells.old.items ++ words_from at count words.now) }
 {
-    cells.extend_from_slice(value)?;
-    for k in value.len() as u64..width {
+    let first = at as usize;
+    cells.extend_from_slice(&words[first..first + count as usize])
+}
+
+/// Appends the value of `count` words from index `at` on, with words 0 at its end.
+fn push_wide(
+    cells: &mut Vec<u64>,
+    words: &[u64],
+    at: u64,
+    count: u64,
+    width: u64,
+) -> Result<(), AllocError>
+    requires within { at + count ≤ length words.now }
+    requires wide { count ≤ width }
+    ensures { OnOk result (cells.new.items ≡ cells.old.items ++ padded_words width (words_from at count words.now)) }
+{
+    push_part(cells, words, at, count)?;
+    push_zeros(cells, width - count)
+}
+
+/// Appends `count` words 0.
+fn push_zeros(cells: &mut Vec<u64>, count: u64) -> Result<(), AllocError>
+    ensures { OnOk result (cells.new.items ≡ cells.old.items ++ zeros count) }
+{
+    for k in 0..count {
         cells.push(0)?;
     }
     Ok(())

@@ -1,13 +1,14 @@
 //! Writing images as text.
 
-ghost use Rattle.std.specs.Prelude.{◌≡◌, IfOk, IfErr, true};
+ghost use Rattle.std.specs.Prelude.{◌≡◌, [], IfOk, IfErr, OnOk, true};
 ghost use Rattle.rmecore.specs.declared.refusal.Refusal.TheVariants.{OutOfMemory};
 ghost use Rattle.rmeworld.specs.ImageText.{list_data, own_data, lock_data, written_data, image_line, Spells};
-ghost use Rattle.serde_json.specs.View.{view};
+ghost use Rattle.serde_json.specs.Data.{object};
+ghost use Rattle.serde_json.specs.View.{view, members_view};
 
 use crate::image::Image;
 use rmecore::{Own, Refusal};
-use serde_json::{Value, json};
+use serde_json::{Map, Value, put};
 use std::alloc::{AllocError, Global};
 
 /// The line of an image: compact JSON, its members by rising name, and a line feed. It always writes version 2. It checks no
@@ -27,14 +28,29 @@ pub fn write_image(alloc: Global, image: &Image) -> Result<Vec<u8>, Refusal>
 fn image_value(alloc: Global, image: &Image) -> Result<Value, AllocError>
     ensures { IfOk result (λ v. view v ≡ written_data image.now) }
 {
-    json!(in alloc; {
-        "cap": image.cap,
-        "data": list_value(alloc, image.cells.as_slice())?,
-        "limit": image.limit,
-        "lock": lock_value(alloc, image.lock.as_slice())?,
-        "version": 2u64,
-        "width": image.width
-    })
+    let mut members = Map::new(alloc);
+    put_members(&mut members, alloc, image)?;
+    Ok(Value::Object(members))
+}
+
+/// Puts the members of an image's JSON value, by rising name.
+fn put_members(
+    members: &mut Map<String, Value>,
+    alloc: Global,
+    image: &Image,
+) -> Result<(), AllocError>
+    requires { members.old.entries ≡ [] }
+    ensures { OnOk result (object (members_view members.new.entries) ≡ written_data image.now) }
+{
+    put(members, alloc, "cap", Value::from(image.cap))?;
+    let data = list_value(alloc, image.cells.as_slice())?;
+    put(members, alloc, "data", data)?;
+    put(members, alloc, "limit", Value::from(image.limit))?;
+    let lock = lock_value(alloc, image.lock.as_slice())?;
+    put(members, alloc, "lock", lock)?;
+    put(members, alloc, "version", Value::from(2u64))?;
+    put(members, alloc, "width", Value::from(image.width))?;
+    Ok(())
 }
 
 /// A list of numbers.

@@ -7,7 +7,7 @@ ghost use Rattle.schedule.specs.Words.{line_of};
 ghost use Rattle.schedule.specs.Deeds.{word_of, words_of_deed, deed_at, IsDeed};
 ghost use Rattle.schedule.specs.FirstLines.{BeginsWithItem};
 
-use crate::lexer::tokens::{after_line_end, after_space, number, numbers, value};
+use crate::lexer::tokens::{after_bytes, after_line_end, after_space, number, numbers, value};
 use crate::lines::deed::DeedWord;
 use redomail::Deed;
 use rmecore::Outer;
@@ -33,13 +33,19 @@ fn word(text: &[u8]) -> Option<(DeedWord, &[u8])>
 fn mail_word(text: &[u8]) -> Option<(DeedWord, &[u8])>
     ensures { IfSome result (λ read. text.now ≡ word_of read.0 ++ 32 ∷ read.1.now) }
 {
-    match text {
-        [b'c', b'o', b'm', b'm', b'i', b't', b' ', rest @ ..] => Some((DeedWord::Commit, rest)),
-        [b's', b'h', b'o', b'w', b' ', rest @ ..] => Some((DeedWord::Show, rest)),
-        [b'c', b'l', b'o', b's', b'e', b' ', rest @ ..] => Some((DeedWord::Close, rest)),
-        [b'r', b'u', b'i', b'n', b' ', rest @ ..] => Some((DeedWord::Ruin, rest)),
-        _ => None,
+    if let Some(rest) = after_bytes(text, b"commit ") {
+        return Some((DeedWord::Commit, rest));
     }
+    if let Some(rest) = after_bytes(text, b"show ") {
+        return Some((DeedWord::Show, rest));
+    }
+    if let Some(rest) = after_bytes(text, b"close ") {
+        return Some((DeedWord::Close, rest));
+    }
+    if let Some(rest) = after_bytes(text, b"ruin ") {
+        return Some((DeedWord::Ruin, rest));
+    }
+    None
 }
 
 /// As `word`, for the deeds from the doorway up to the entry.
@@ -48,16 +54,19 @@ fn mail_word(text: &[u8]) -> Option<(DeedWord, &[u8])>
 fn way_word(text: &[u8]) -> Option<(DeedWord, &[u8])>
     ensures { IfSome result (λ read. text.now ≡ word_of read.0 ++ 32 ∷ read.1.now) }
 {
-    match text {
-        [b'b', b'e', b'g', b'i', b'n', b' ', rest @ ..] => Some((DeedWord::Begin, rest)),
-        [b'r', b'e', b'a', b'd', b'y', b' ', rest @ ..] => Some((DeedWord::Ready, rest)),
-        [b'e', b'n', b't', b'e', b'r', b' ', rest @ ..] => Some((DeedWord::Enter, rest)),
-        [b'r', b'e', b'e', b'n', b't', b'e', b'r', b' ', rest @ ..] => Some((
-            DeedWord::Reenter,
-            rest,
-        )),
-        _ => None,
+    if let Some(rest) = after_bytes(text, b"begin ") {
+        return Some((DeedWord::Begin, rest));
     }
+    if let Some(rest) = after_bytes(text, b"ready ") {
+        return Some((DeedWord::Ready, rest));
+    }
+    if let Some(rest) = after_bytes(text, b"enter ") {
+        return Some((DeedWord::Enter, rest));
+    }
+    if let Some(rest) = after_bytes(text, b"reenter ") {
+        return Some((DeedWord::Reenter, rest));
+    }
+    None
 }
 
 /// As `word`, for `leave`, `crash` and `quit`.
@@ -66,12 +75,16 @@ fn way_word(text: &[u8]) -> Option<(DeedWord, &[u8])>
 fn end_word(text: &[u8]) -> Option<(DeedWord, &[u8])>
     ensures { IfSome result (λ read. text.now ≡ word_of read.0 ++ 32 ∷ read.1.now) }
 {
-    match text {
-        [b'l', b'e', b'a', b'v', b'e', b' ', rest @ ..] => Some((DeedWord::Leave, rest)),
-        [b'c', b'r', b'a', b's', b'h', b' ', rest @ ..] => Some((DeedWord::Crash, rest)),
-        [b'q', b'u', b'i', b't', b' ', rest @ ..] => Some((DeedWord::Quit, rest)),
-        _ => None,
+    if let Some(rest) = after_bytes(text, b"leave ") {
+        return Some((DeedWord::Leave, rest));
     }
+    if let Some(rest) = after_bytes(text, b"crash ") {
+        return Some((DeedWord::Crash, rest));
+    }
+    if let Some(rest) = after_bytes(text, b"quit ") {
+        return Some((DeedWord::Quit, rest));
+    }
+    None
 }
 
 /// The deed of a word that takes one number, its process. None for `commit` and `show`.

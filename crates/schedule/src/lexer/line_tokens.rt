@@ -7,7 +7,7 @@ ghost use Rattle.schedule.specs.Words.{line_of};
 ghost use Rattle.schedule.specs.Commands.{word_of, words_of_line, line_at, IsLine};
 ghost use Rattle.schedule.specs.FirstLines.{BeginsWithItem};
 
-use crate::lexer::tokens::{after_line_end, after_space, number, numbers, value};
+use crate::lexer::tokens::{after_bytes, after_line_end, after_space, number, numbers, value};
 use crate::lines::command::Keyword;
 use crate::lines::line::Line;
 use rmeworld::Call;
@@ -33,28 +33,22 @@ fn word(text: &[u8]) -> Option<(Keyword, &[u8])>
 fn lock_word(text: &[u8]) -> Option<(Keyword, &[u8])>
     ensures { IfSome result (λ read. text.now ≡ word_of read.0 ++ 32 ∷ read.1.now) }
 {
-    match text {
-        [b'l', b'o', b'c', b'k', b' ', rest @ ..] => Some((Keyword::Lock, rest)),
-        [b'u', b'n', b'l', b'o', b'c', b'k', b' ', rest @ ..] => Some((Keyword::Unlock, rest)),
-        [b'c', b'r', b'a', b's', b'h', b' ', rest @ ..] => Some((Keyword::Crash, rest)),
-        [b'r', b'e', b'c', b'o', b'v', b'e', b'r', b' ', rest @ ..] => Some((
-            Keyword::Recover,
-            rest,
-        )),
-        [
-            b'w',
-            b'i',
-            b't',
-            b'h',
-            b'd',
-            b'r',
-            b'a',
-            b'w',
-            b' ',
-            rest @ ..,
-        ] => Some((Keyword::Withdraw, rest)),
-        _ => None,
+    if let Some(rest) = after_bytes(text, b"lock ") {
+        return Some((Keyword::Lock, rest));
     }
+    if let Some(rest) = after_bytes(text, b"unlock ") {
+        return Some((Keyword::Unlock, rest));
+    }
+    if let Some(rest) = after_bytes(text, b"crash ") {
+        return Some((Keyword::Crash, rest));
+    }
+    if let Some(rest) = after_bytes(text, b"recover ") {
+        return Some((Keyword::Recover, rest));
+    }
+    if let Some(rest) = after_bytes(text, b"withdraw ") {
+        return Some((Keyword::Withdraw, rest));
+    }
+    None
 }
 
 /// As `word`, for `append`, `consistent` and `close`.
@@ -63,25 +57,16 @@ fn lock_word(text: &[u8]) -> Option<(Keyword, &[u8])>
 fn mail_word(text: &[u8]) -> Option<(Keyword, &[u8])>
     ensures { IfSome result (λ read. text.now ≡ word_of read.0 ++ 32 ∷ read.1.now) }
 {
-    match text {
-        [b'a', b'p', b'p', b'e', b'n', b'd', b' ', rest @ ..] => Some((Keyword::Append, rest)),
-        [
-            b'c',
-            b'o',
-            b'n',
-            b's',
-            b'i',
-            b's',
-            b't',
-            b'e',
-            b'n',
-            b't',
-            b' ',
-            rest @ ..,
-        ] => Some((Keyword::Consistent, rest)),
-        [b'c', b'l', b'o', b's', b'e', b' ', rest @ ..] => Some((Keyword::Close, rest)),
-        _ => None,
+    if let Some(rest) = after_bytes(text, b"append ") {
+        return Some((Keyword::Append, rest));
     }
+    if let Some(rest) = after_bytes(text, b"consistent ") {
+        return Some((Keyword::Consistent, rest));
+    }
+    if let Some(rest) = after_bytes(text, b"close ") {
+        return Some((Keyword::Close, rest));
+    }
+    None
 }
 
 /// As `word`, for the calls on board words.
@@ -90,11 +75,13 @@ fn mail_word(text: &[u8]) -> Option<(Keyword, &[u8])>
 fn board_word(text: &[u8]) -> Option<(Keyword, &[u8])>
     ensures { IfSome result (λ read. text.now ≡ word_of read.0 ++ 32 ∷ read.1.now) }
 {
-    match text {
-        [b'g', b'e', b't', b' ', rest @ ..] => Some((Keyword::Get, rest)),
-        [b'p', b'u', b't', b' ', rest @ ..] => Some((Keyword::Put, rest)),
-        _ => None,
+    if let Some(rest) = after_bytes(text, b"get ") {
+        return Some((Keyword::Get, rest));
     }
+    if let Some(rest) = after_bytes(text, b"put ") {
+        return Some((Keyword::Put, rest));
+    }
+    None
 }
 
 /// The line of a command that takes one number, its process. None for the other commands.

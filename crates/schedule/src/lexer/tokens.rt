@@ -65,6 +65,23 @@ pub(crate) fn after_space(text: &[u8]) -> Option<&[u8]>
     }
 }
 
+/// The text after these bytes.
+// Inline: at each call the bytes are known, so that each comparison is with a constant.
+#[inline(always)]
+pub(crate) fn after_bytes<'a>(text: &'a [u8], bytes: &[u8]) -> Option<&'a [u8]>
+    ensures { IfSome result (λ rest. text.now ≡ bytes.now ++ rest.now) }
+{
+    let mut rest = text;
+    for byte in bytes {
+        let (first, after) = rest.split_first()?;
+        if *first != *byte {
+            return None;
+        }
+        rest = after;
+    }
+    Some(rest)
+}
+
 /// Reads `width` numbers into the front of `words`, each after a space. Answers the text after them.
 // Inline: one call a message.
 #[inline(always)]

@@ -1,4 +1,4 @@
-use Rattle.std.proofs.Common.{◌≡◌, ◌<◌, ℕ, vec_len, slice_index_or}
+use Rattle.std.proofs.Common.{◌≡◌, ◌<◌, ◌≤◌, ℕ, vec_len, vec_capacity, slice_index_or}
 use Rattle.rmeworld.proofs.Common.{resting, machine_after_crash, absent_machine}
 use Rattle.rmeworld.proofs.world.all_crashed.Given as goal
 
@@ -6,5 +6,6 @@ abbrev pub invariant-loop-index : goal.invariant-loop-index
 invariant-loop-index l =
     record {
       length : vec_len l.processes ≡ l.index;
+      room : l.layout.procs ≤ vec_capacity l.processes;
       each : (p : ℕ) → p < l.index → slice_index_or l.processes.items p absent_machine ≡ machine_after_crash (resting l.layout l.limit p);
     }

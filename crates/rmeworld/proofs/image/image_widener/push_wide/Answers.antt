@@ -1,14 +1,9 @@
-use Rattle.std.proofs.Common.{◌≡◌, ℕ, zero, suc, ◌+◌, ◌-◌, [], ◌∷◌, ◌++◌, length, refl, ap, arith, append_assoc}
-use Rattle.rmecore.specs.Body.{zeros}
+use Rattle.std.proofs.lemmas.Result.{on_ok_weaker}
+use Rattle.rmeworld.proofs.WideWords.{padded_from}
 use Rattle.rmeworld.proofs.image.image_widener.push_wide.Goals as goal
 
-one_more : (n : ℕ) → zeros n ++ 0 ∷ [] ≡ zeros (n + 1)
-one_more zero = refl
-one_more (suc n) = let e : suc n + 1 ≡ suc (n + 1) = omega arith in rw e (ap (λ xs. 0 ∷ xs) (one_more n))
-
-pub loop-k-preserved : goal.loop-k-preserved
-loop-k-preserved c =
-    let n = length c.args.value.now in
-    let e : c.loop-k.k + 1 - n ≡ c.loop-k.k - n + 1 = omega arith in
-    let more = one_more (c.loop-k.k - n) in
-    rw (c.in_ok-push.ensures.items, c.loop-k.invariant, e, ← more) (grind (arith, append_assoc))
+pub returns : goal.returns
+returns c =
+    on_ok_weaker c.push_zeros.result
+    (λ e. padded_from c.args.cells.now.items c.push_part.new.cells.items c.push_zeros.new.cells.items c.args.words.now c.args.at c.args.count c.args.width c.requires.within c.in_ok-push_part.ensures e)
+    c.push_zeros.ensures

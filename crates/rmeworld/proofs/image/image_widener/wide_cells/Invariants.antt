@@ -1,6 +1,0 @@
-use Rattle.std.proofs.Common.{◌≡◌}
-use Rattle.rmeworld.proofs.ImageCommon.{wide_words}
-use Rattle.rmeworld.proofs.image.image_widener.wide_cells.Given as goal
-
-abbrev pub invariant-loop-a : goal.invariant-loop-a
-invariant-loop-a l = l.cells.items ≡ wide_words l.fn.layout l.width l.words l.a

@@ -1,0 +1,14 @@
+use Rattle.std.proofs.Common.{◌≡◌, length, arith}
+use Rattle.rmeworld.proofs.Common.{resting, absent_machine}
+use Rattle.rmeworld.proofs.IndexedLists.{each_more}
+use Rattle.rmeworld.proofs.world.all_at_rest.Goals as goal
+
+pub loop-index-preserved : goal.loop-index-preserved
+loop-index-preserved c =
+    let i = c.loop-index.invariant in
+    let so_far : length c.loop-index.processes.items ≡ c.loop-index.index = omega (arith, i.length) in
+    record {
+      length = omega (arith, c.push_reserved.ensures.len, i.length);
+      room = omega (arith, c.push_reserved.ensures.capacity, i.room);
+      each = each_more c.loop-index.processes.items _ c.new.result absent_machine (resting c.args.layout c.args.limit) c.loop-index.index so_far i.each c.push_reserved.ensures.items c.new.ensures;
+    }

@@ -258,6 +258,22 @@ fn lower_all<O: Oracle>(
     Ok(())
 }
 
+/// Makes the large changes of each kind once.
+fn shorten_once<O: Oracle>(
+    alloc: Global,
+    oracle: &mut O,
+    schedule: &mut Schedule,
+) -> Result<(), OutOfMemory>
+    ensures { OnOk result (O.criterion_of oracle.new ≡ O.criterion_of oracle.old) }
+{
+    silence(alloc, oracle, schedule)?;
+    sweep_all(alloc, oracle, schedule)?;
+    silence_calls(alloc, oracle, schedule)?;
+    gather(alloc, oracle, schedule)?;
+    lower_all(alloc, oracle, schedule)?;
+    Ok(())
+}
+
 /// The schedule with large changes made. It still goes wrong.
 pub fn shorten<O: Oracle>(
     alloc: Global,
@@ -268,11 +284,7 @@ pub fn shorten<O: Oracle>(
 {
     let mut now = copy_of(alloc, schedule)?;
     for _ in 0..3 {
-        silence(alloc, oracle, &mut now)?;
-        sweep_all(alloc, oracle, &mut now)?;
-        silence_calls(alloc, oracle, &mut now)?;
-        gather(alloc, oracle, &mut now)?;
-        lower_all(alloc, oracle, &mut now)?;
+        shorten_once(alloc, oracle, &mut now)?;
     }
     Ok(now)
 }

@@ -105,7 +105,7 @@ pass_on test xs i x less at f =
     ap (λ (n : ℕ). find test (drop n xs)) next
     ∙ sym (ap (find test) (drop-cons xs i x less) ∙ passed test (get_or xs i x) (drop (suc i) xs) (subst (λ y. test y ≡ false) at f))
 
--- a goto that is led, and one of another call
+-- a goto that is led, one that leads nowhere, and one of another call
 pub led_on : (labels : List Label) (blocks : List (ℕ × ℕ)) (call : CallRead) (jumps : List Jump) (lines out : List PlacedLine) (i : ℕ) (jump : Jump) → i < length jumps
     → jump ≡ get_or jumps i jump → is_within (call.«from», call.to) jump.place ≡ true → jump_led labels blocks call lines jump ≡ Some out
     → jumps_led labels blocks call (drop i jumps) lines ≡ jumps_led labels blocks call (drop (i + 1) jumps) out
@@ -116,6 +116,15 @@ led_on labels blocks call jumps lines out i jump less at within led =
     ∙ ap (λ b. cond b (jump_led labels blocks call lines jump >>= jumps_led labels blocks call (drop (suc i) jumps)) (jumps_led labels blocks call (drop (suc i) jumps) lines)) within
     ∙ ap (λ o. o >>= jumps_led labels blocks call (drop (suc i) jumps)) led
     ∙ ap (λ (n : ℕ). jumps_led labels blocks call (drop n jumps) out) next
+
+pub lost_on : (labels : List Label) (blocks : List (ℕ × ℕ)) (call : CallRead) (jumps : List Jump) (lines : List PlacedLine) (i : ℕ) (jump : Jump) → i < length jumps
+    → jump ≡ get_or jumps i jump → is_within (call.«from», call.to) jump.place ≡ true → jump_led labels blocks call lines jump ≡ None
+    → jumps_led labels blocks call (drop i jumps) lines ≡ None
+lost_on labels blocks call jumps lines i jump less at within lost =
+    ap (λ js. jumps_led labels blocks call js lines) (drop-cons jumps i jump less)
+    ∙ ap (λ j. jumps_led labels blocks call (j ∷ drop (suc i) jumps) lines) (sym at)
+    ∙ ap (λ b. cond b (jump_led labels blocks call lines jump >>= jumps_led labels blocks call (drop (suc i) jumps)) (jumps_led labels blocks call (drop (suc i) jumps) lines)) within
+    ∙ ap (λ o. o >>= jumps_led labels blocks call (drop (suc i) jumps)) lost
 
 pub skip_on : (labels : List Label) (blocks : List (ℕ × ℕ)) (call : CallRead) (jumps : List Jump) (lines : List PlacedLine) (i : ℕ) (jump : Jump) → i < length jumps
     → jump ≡ get_or jumps i jump → is_within (call.«from», call.to) jump.place ≡ false

@@ -174,7 +174,9 @@ impl Draft {
         ensures kept { draft_view self.new ≡ with_names (draft_view self.new).names (draft_view self.old) }
     {
         let extent = self.extent_at(alloc, declaration)?;
-        let (index, rest) = self.index(alloc, &extent, after(tokens, 1))?;
+        let read = self.index(alloc, &extent, after(tokens, 1));
+        drop(extent);
+        let (index, rest) = read?;
         Ok((WordOf { declaration, index }, rest))
     }
 

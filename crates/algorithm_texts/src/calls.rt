@@ -16,7 +16,7 @@ use crate::constants::{constant_form_fault, is_constant_value};
 use crate::lines::{CallRead, Draft};
 use crate::names::{declare_private, new_name, undeclared_name};
 use crate::parts::{after, after_sign, after_word, check_end, letters, number_at, split_value};
-use crate::tokens::{LineWord, Sign, Token, Tokens, is_sign, is_word};
+use crate::tokens::{LineWord, Sign, Token, Tokens, is_sign, is_word, spells};
 use algorithms::algorithm::{Algorithm, AlgorithmCall, Entries, NamedConstant, Promises};
 use algorithms::condition::Comparison;
 use algorithms::constants::MOST_PROCS;
@@ -84,9 +84,9 @@ fn head_words(tokens: &[Token]) -> Result<(LineWord, u64, u64), ReadFault>
 {
     let rest = after_word(tokens, b"algorithm")?;
     let name = new_name(rest.first())?;
-    let (least, most, rest) = numbers(after_word(after(rest, 1), b"for")?).ok_or(
-        ReadFault::NoHeader,
-    )?;
+    let Some((least, most, rest)) = numbers(after_word(after(rest, 1), b"for")?) else {
+        return Err(ReadFault::NoHeader);
+    };
     check_end(after_word(rest, b"processes")?)?;
     Ok((name, least, most))
 }
@@ -122,13 +122,13 @@ pub fn head(alloc: Global, line: &Tokens) -> Result<Algorithm, ReadFault>
 fn call_named(word: &[u8]) -> Option<AlgorithmCall>
     ensures { result ≡ value_of_name call_words word.now }
 {
-    if word == b"lock".as_slice() {
+    if spells(word, b"lock") {
         Some(AlgorithmCall::Lock)
-    } else if word == b"unlock".as_slice() {
+    } else if spells(word, b"unlock") {
         Some(AlgorithmCall::Unlock)
-    } else if word == b"recover".as_slice() {
+    } else if spells(word, b"recover") {
         Some(AlgorithmCall::Recover)
-    } else if word == b"withdraw".as_slice() {
+    } else if spells(word, b"withdraw") {
         Some(AlgorithmCall::Withdraw)
     } else {
         None
@@ -281,7 +281,9 @@ impl Draft {
             (call_fault (draft_view self.old) tokens.now last) }
     {
         self.end_call(last)?;
-        let call = call_of(tokens.first()).ok_or(ReadFault::BadForm)?;
+        let Some(call) = call_of(tokens.first()) else {
+            return Err(ReadFault::BadForm);
+        };
         check_end(after(tokens, 1))?;
         if has_call(self.calls.as_slice(), call) {
             return Err(ReadFault::BadCall);

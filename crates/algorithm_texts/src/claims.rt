@@ -17,7 +17,7 @@ use crate::first_values::has_me;
 use crate::lines::{ClaimLabel, Draft};
 use crate::names::{index_of, is_declared, new_name, push_name, undeclared_name};
 use crate::parts::{after, after_sign, letters};
-use crate::tokens::{LineWord, Sign, Token, is_sign, is_word};
+use crate::tokens::{LineWord, Sign, Token, is_sign, is_word, spells};
 use algorithms::algorithm::Algorithm;
 use algorithms::condition::{Comparison, Condition};
 use algorithms::fault::ReadFault;
@@ -43,15 +43,15 @@ fn fact_letters(name: usize) -> Result<LineWord, ReadFault>
 fn phase_named(word: &[u8]) -> Option<ClaimedPhase>
     ensures { result ≡ value_of_name phase_words word.now }
 {
-    if word == b"out".as_slice() {
+    if spells(word, b"out") {
         Some(ClaimedPhase::Out)
-    } else if word == b"doorway".as_slice() {
+    } else if spells(word, b"doorway") {
         Some(ClaimedPhase::Doorway)
-    } else if word == b"waiting".as_slice() {
+    } else if spells(word, b"waiting") {
         Some(ClaimedPhase::Waiting)
-    } else if word == b"inside".as_slice() {
+    } else if spells(word, b"inside") {
         Some(ClaimedPhase::Inside)
-    } else if word == b"dead".as_slice() {
+    } else if spells(word, b"dead") {
         Some(ClaimedPhase::Dead)
     } else {
         None
@@ -281,7 +281,9 @@ impl Draft {
         ensures kept { draft_view self.new ≡ with_facts_read (facts_of read.new (draft_view self.new)) (draft_view self.old) }
     {
         let name = self.first_name(read)?;
-        let phase = phase_of(read.tokens.get(2)).ok_or(ReadFault::BadForm)?;
+        let Some(phase) = phase_of(read.tokens.get(2)) else {
+            return Err(ReadFault::BadForm);
+        };
         let rest = joined_tokens(alloc, after(read.tokens.as_slice(), 3), &[])?;
         self.add_test(
             alloc,

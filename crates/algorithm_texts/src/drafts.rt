@@ -15,7 +15,7 @@ use crate::calls::head;
 use crate::filled::Filled;
 use crate::lines::Draft;
 use crate::promises::promises;
-use crate::tokens::{tail, tokens_of};
+use crate::tokens::{place_of_byte, tail, tokens_of};
 use algorithms::algorithm::{Algorithm, Promises};
 use algorithms::fault::{AlgorithmFault, ReadFault};
 use std::alloc::Global;
@@ -80,7 +80,7 @@ fn split_line(bytes: &[u8]) -> Option<(&[u8], &[u8])>
 fn line_end(bytes: &[u8]) -> Option<usize>
     ensures { result ≡ position (λ b. b == 10) bytes.now }
 {
-    bytes.iter().position(|byte| *byte == b'\n')
+    place_of_byte(bytes, b'\n')
 }
 
 /// The lines of a text that are not empty.

@@ -13,6 +13,7 @@ mod values;
 
 use crate::likeness::claims::is_claimed_alike;
 use crate::likeness::values::{same_condition, same_condition_if, same_value, same_value_if};
+use crate::tokens::spells;
 use algorithms::algorithm::{Algorithm, Declaration, Entries, Extent, NamedConstant, Promises};
 use algorithms::expression::Expression;
 use algorithms::first_values::{FirstValues, InitializedAlgorithm};
@@ -229,7 +230,7 @@ fn same_lines(left: &[AlgorithmLine], right: &[AlgorithmLine]) -> bool
 fn same_name(left: &String, right: &String) -> bool
     ensures { IsTrue result ↔ (string_bytes left.now ≡ string_bytes right.now) }
 {
-    left.as_bytes() == right.as_bytes()
+    spells(left.as_bytes(), right.as_bytes())
 }
 
 /// Whether these names are the same.
@@ -279,7 +280,7 @@ fn same_extent(left: &Extent, right: &Extent) -> bool
 fn same_declaration(left: &Declaration, right: &Declaration) -> bool
     ensures { IsTrue result ↔ AreOneDeclaration left.now right.now }
 {
-    (left.name.as_bytes() == right.name.as_bytes() && same_extent(&left.extent, &right.extent))
+    (same_name(&left.name, &right.name) && same_extent(&left.extent, &right.extent))
         && (same_value_if(&left.bound, &right.bound) && same_value_if(&left.home, &right.home))
 }
 
@@ -384,7 +385,7 @@ fn same_promises(left: Promises, right: Promises) -> bool
 fn same_title(left: &Algorithm, right: &Algorithm) -> bool
     ensures { IsTrue result ↔ AreTitledAlike left.now right.now }
 {
-    (left.name.as_bytes() == right.name.as_bytes() && same_promises(left.promises, right.promises))
+    (same_name(&left.name, &right.name) && same_promises(left.promises, right.promises))
         && (left.least == right.least && left.most == right.most)
 }
 

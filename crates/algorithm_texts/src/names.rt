@@ -1,6 +1,6 @@
 //! The names of a text.
 
-ghost use Rattle.std.specs.Prelude.{◌≡◌, ◌≤◌, ◌<◌, ◌+◌, ◌⊎◌, ◌++◌, ◌∷◌, [], ◌||◌, IsAscii, OnOk, position, bytes_eq, if◌then◌else◌, Some, None, length, MatchResult};
+ghost use Rattle.std.specs.Prelude.{◌≡◌, ◌≤◌, ◌<◌, ◌+◌, ◌⊎◌, ◌++◌, ◌∷◌, [], ◌||◌, IsAscii, OnOk, position, bytes_eq, if◌then◌else◌, Some, None, length, map, string_bytes, MatchResult};
 ghost use Rattle.std.specs.List.{list_any};
 ghost use Rattle.std.specs.Option.{option_copied};
 ghost use Rattle.algorithm_texts.specs.Grammar.{is_among, private_name_part, named_part, constant_named};
@@ -11,7 +11,7 @@ ghost use Rattle.algorithm_texts.specs.LineFaults.{new_name_fault, name_set_faul
 ghost use Rattle.algorithm_texts.specs.NewNames.{undeclared_name};
 
 use crate::constants::{constant_named, is_constant_name};
-use crate::tokens::{LineWord, Token};
+use crate::tokens::{LineWord, Token, spells};
 use algorithms::algorithm::Algorithm;
 use algorithms::expression::{Expression, NAMES};
 use algorithms::fault::ReadFault;
@@ -70,7 +70,7 @@ fn is_one_of(words: &[&[u8]], word: &[u8]) -> bool
     ensures { result ≡ list_any (λ other. bytes_eq other.now word.now) words.now }
 {
     for other in words {
-        if *other == word {
+        if spells(*other, word) {
             return true;
         }
     }
@@ -89,7 +89,7 @@ fn is_reserved(word: &[u8]) -> bool
 fn is_constant(word: &[u8]) -> bool
     ensures { result ≡ is_constant word.now }
 {
-    word == b"me".as_slice() || word == b"procs".as_slice() || word == b"limit".as_slice()
+    spells(word, b"me") || spells(word, b"procs") || spells(word, b"limit")
 }
 
 /// The declaration of a shared word.
@@ -102,14 +102,18 @@ pub fn declaration_of(algorithm: &Algorithm, word: &[u8]) -> Option<usize>
         .position(|declared| declared.name.as_bytes() == word)
 }
 
+/// The place of a text among others.
+pub fn text_place(texts: &[String], word: &[u8]) -> Option<usize>
+    ensures { result ≡ position (λ other. bytes_eq other word.now) (map (λ other. string_bytes other) texts.now) }
+{
+    texts.iter().position(|other| other.as_bytes() == word)
+}
+
 /// The index of a private name.
 pub fn index_of(algorithm: &Algorithm, word: &[u8]) -> Option<usize>
     ensures { result ≡ position (λ name. bytes_eq name word.now) (names_of algorithm.now) }
 {
-    algorithm
-        .names
-        .iter()
-        .position(|name| name.as_bytes() == word)
+    text_place(algorithm.names.as_slice(), word)
 }
 
 /// A word as a new name: no word of the format.

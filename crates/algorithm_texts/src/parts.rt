@@ -8,7 +8,7 @@ ghost use Rattle.algorithm_texts.specs.LineFaults.{undone_fault};
 ghost use Rattle.algorithm_texts.specs.TextDrafts.{number_in};
 ghost use Rattle.algorithm_texts.specs.Tokens.{value_of_name};
 
-use crate::tokens::{LineWord, Sign, Token, is_sign, is_word};
+use crate::tokens::{LineWord, Sign, Token, is_sign, is_word, spells};
 use algorithms::fault::ReadFault;
 use algorithms::line::{AlgorithmDeed, Members};
 
@@ -119,17 +119,17 @@ pub fn number_at(token: Option<&Token>) -> Option<u64>
 fn deed_named(word: &[u8]) -> Option<AlgorithmDeed>
     ensures { result ≡ value_of_name deed_words word.now }
 {
-    if word == b"begin".as_slice() {
+    if spells(word, b"begin") {
         Some(AlgorithmDeed::Begin)
-    } else if word == b"ready".as_slice() {
+    } else if spells(word, b"ready") {
         Some(AlgorithmDeed::Ready)
-    } else if word == b"enter".as_slice() {
+    } else if spells(word, b"enter") {
         Some(AlgorithmDeed::Enter)
-    } else if word == b"reenter".as_slice() {
+    } else if spells(word, b"reenter") {
         Some(AlgorithmDeed::Reenter)
-    } else if word == b"leave".as_slice() {
+    } else if spells(word, b"leave") {
         Some(AlgorithmDeed::Leave)
-    } else if word == b"quit".as_slice() {
+    } else if spells(word, b"quit") {
         Some(AlgorithmDeed::Quit)
     } else {
         None
@@ -147,13 +147,13 @@ fn deed_of(token: Option<&Token>) -> Option<AlgorithmDeed>
 fn members_named(word: &[u8]) -> Option<Members>
     ensures { result ≡ value_of_name members_words word.now }
 {
-    if word == b"all".as_slice() {
+    if spells(word, b"all") {
         Some(Members::All)
-    } else if word == b"others".as_slice() {
+    } else if spells(word, b"others") {
         Some(Members::Others)
-    } else if word == b"lower".as_slice() {
+    } else if spells(word, b"lower") {
         Some(Members::Lower)
-    } else if word == b"higher".as_slice() {
+    } else if spells(word, b"higher") {
         Some(Members::Higher)
     } else {
         None
@@ -180,7 +180,9 @@ pub fn members_said(tokens: &[Token]) -> Result<Members, ReadFault>
     ensures err { IfErr result (λ fault. (members_said tokens.now ≡ None) × (fault ≡ NoForm)) }
 {
     let rest = after_word(tokens, b"in")?;
-    let members = members_of(rest.first()).ok_or(ReadFault::BadForm)?;
+    let Some(members) = members_of(rest.first()) else {
+        return Err(ReadFault::BadForm);
+    };
     check_end(after(rest, 1))?;
     Ok(members)
 }
@@ -191,7 +193,9 @@ pub fn deed_said(tokens: &[Token]) -> Result<AlgorithmDeed, ReadFault>
     ensures err { IfErr result (λ fault. (deed_said tokens.now ≡ None) × (fault ≡ NoForm)) }
 {
     let rest = after_word(after_word(tokens, b"this")?, b"is")?;
-    let deed = deed_of(rest.first()).ok_or(ReadFault::BadForm)?;
+    let Some(deed) = deed_of(rest.first()) else {
+        return Err(ReadFault::BadForm);
+    };
     check_end(after(rest, 1))?;
     Ok(deed)
 }

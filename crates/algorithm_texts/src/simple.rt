@@ -1,6 +1,6 @@
 //! Statements that are no blocks.
 
-ghost use Rattle.std.specs.Prelude.{◌≡◌, map, None, MatchResult, IsAscii, string_bytes, slice_get, position, bytes_eq};
+ghost use Rattle.std.specs.Prelude.{◌≡◌, map, None, MatchResult, IsAscii, string_bytes, slice_get};
 ghost use Rattle.algorithms.specs.declared.fault.ReadFault.TheVariants.{OutOfMemory as NoMemory, BadForm as NoForm};
 ghost use Rattle.algorithm_texts.specs.Drafts.{draft_view};
 ghost use Rattle.algorithm_texts.specs.LineDrafts.{answer_place, Drafts, read_assigned_value, read_assigned, read_set_to, read_private_assignment, read_assignment, placed_answer, read_done, read_goto, read_simple};
@@ -8,19 +8,12 @@ ghost use Rattle.algorithm_texts.specs.LineFaults.{set_to_fault, private_assignm
 
 use crate::accesses::{begins_swap, begins_word};
 use crate::lines::{Draft, Jump};
-use crate::names::{is_declared, new_name};
+use crate::names::{is_declared, new_name, text_place};
 use crate::parts::{after, after_sign, check_end, ended_without_deed, letters, split_value};
 use crate::tokens::{Sign, Token, is_sign, is_word};
 use algorithms::fault::ReadFault;
 use algorithms::line::{LineKind, LocalLine};
 use std::alloc::Global;
-
-/// The place of an answer among those that were there before.
-fn known_answer(answers: &[String], answer: &[u8]) -> Option<usize>
-    ensures { result ≡ position (λ other. bytes_eq other answer.now) (map (λ other. string_bytes other) answers.now) }
-{
-    answers.iter().position(|other| other.as_bytes() == answer)
-}
 
 /// Adds an answer, and says its index.
 fn add_answer(alloc: Global, answers: &mut Vec<String>, answer: &[u8]) -> Result<usize, ReadFault>
@@ -43,7 +36,7 @@ fn answer_place(alloc: Global, answers: &mut Vec<String>, answer: &[u8]) -> Resu
         ≡ (place, map (λ other. string_bytes other) answers.new.items))
         (λ fault. fault ≡ NoMemory) }
 {
-    match known_answer(answers.as_slice(), answer) {
+    match text_place(answers.as_slice(), answer) {
         Some(place) => Ok(place),
         None => add_answer(alloc, answers, answer),
     }
@@ -73,7 +66,9 @@ impl Draft {
         ensures { Drafts (draft_view self.new) result (read_assignment (draft_view self.old) tokens.now)
             (assignment_fault (draft_view self.old) tokens.now) }
     {
-        let first = letters(tokens.first()).ok_or(ReadFault::BadForm)?;
+        let Some(first) = letters(tokens.first()) else {
+            return Err(ReadFault::BadForm);
+        };
         if is_declared(&self.algorithm, first.as_bytes()) {
             self.stores(alloc, tokens)
         } else if is_sign(tokens.get(1), Sign::OpenIndex) {

@@ -1,6 +1,6 @@
 //! The tokens of a line.
 
-ghost use Rattle.std.specs.Prelude.{◌≡◌, ℕ, ◌==◌, IsAscii, not, position, ◌≤◌, ◌<◌, ◌+◌, ◌^◌, ◌↔◌, ◌⊎◌, ◌++◌, List, length, drop, Some, IsTrue, IfSome, IfNone, IfOk, IfErr, OnOk, ◌∷◌, [], true, false, Ok, Err};
+ghost use Rattle.std.specs.Prelude.{◌≡◌, ℕ, ◌==◌, IsAscii, bytes_eq, not, position, ◌≤◌, ◌<◌, ◌+◌, ◌^◌, ◌↔◌, ◌⊎◌, ◌++◌, List, length, drop, Some, IsTrue, IfSome, IfNone, IfOk, IfErr, OnOk, ◌∷◌, [], true, false, Ok, Err};
 ghost use Rattle.std.specs.List.{list_all, prefix_len};
 ghost use Rattle.std.specs.Option.{option_copied};
 ghost use Rattle.std.specs.Char.{is_ascii_digit, is_ascii_lowercase};
@@ -100,7 +100,7 @@ impl LineWord {
     pub fn is(&self, word: &[u8]) -> bool
         ensures { IsTrue result ↔ (self.now ≡ word.now) }
     {
-        self.as_bytes() == word
+        spells(self.as_bytes(), word)
     }
 }
 
@@ -321,18 +321,25 @@ fn answer_of(alloc: Global, bytes: &[u8]) -> Result<Vec<u8>, ReadFault>
     Ok(answer)
 }
 
-/// The place where a comment begins.
-fn comment(line: &[u8]) -> Option<usize>
-    ensures { result ≡ position (λ b. b == 35) line.now }
+/// Whether these are the letters of a word.
+pub fn spells(letters: &[u8], word: &[u8]) -> bool
+    ensures { result ≡ bytes_eq letters.now word.now }
 {
-    line.iter().position(|byte| *byte == b'#')
+    letters == word
+}
+
+/// The place of the first byte that is this one.
+pub fn place_of_byte(bytes: &[u8], wanted: u8) -> Option<usize>
+    ensures { result ≡ position (λ b. b == wanted) bytes.now }
+{
+    bytes.iter().position(|byte| *byte == wanted)
 }
 
 /// The bytes before a comment.
 fn before_comment(line: &[u8]) -> &[u8]
     ensures { result.now ≡ before_comment line.now }
 {
-    match comment(line) {
+    match place_of_byte(line, b'#') {
         Some(at) => &line[..at],
         None => line,
     }

@@ -14,7 +14,7 @@ ghost use Rattle.algorithm_texts.specs.LineFaults.{name_read_fault, begun_fault,
 use crate::names::named_value;
 use crate::operands::{Bracket, Joint, Operand, form_fault};
 use crate::stack::{Stack, StackPlace, Waiting, close, comma, open, reduce};
-use crate::tokens::{Sign, Token};
+use crate::tokens::{Sign, Token, spells};
 use algorithms::algorithm::Algorithm;
 use algorithms::condition::Condition;
 use algorithms::expression::Expression;
@@ -25,11 +25,11 @@ use std::alloc::Global;
 fn bracket_after(word: &[u8]) -> Option<Bracket>
     ensures { result ≡ head_of word.now }
 {
-    if word == b"not".as_slice() {
+    if spells(word, b"not") {
         Some(Bracket::Not)
-    } else if word == b"max".as_slice() {
+    } else if spells(word, b"max") {
         Some(Bracket::Max)
-    } else if word == b"min".as_slice() {
+    } else if spells(word, b"min") {
         Some(Bracket::Min)
     } else {
         None
@@ -48,11 +48,11 @@ fn word_value(
         (name_read_fault (scope_of algorithm.old) word.now) }
     ensures kept { algorithm.new ≡ record algorithm.old { names = algorithm.new.names } }
 {
-    if word == b"me".as_slice() {
+    if spells(word, b"me") {
         Ok(Expression::Me)
-    } else if word == b"procs".as_slice() {
+    } else if spells(word, b"procs") {
         Ok(Expression::Procs)
-    } else if word == b"limit".as_slice() {
+    } else if spells(word, b"limit") {
         Ok(Expression::Limit)
     } else {
         named_value(alloc, algorithm, word)
@@ -112,9 +112,9 @@ fn head(stack: &mut Stack, head: Bracket, token: &Token) -> Result<StackPlace, R
 fn joint_word(word: &[u8]) -> Option<Joint>
     ensures { result ≡ joint_of (WordToken word.now) }
 {
-    if word == b"and".as_slice() {
+    if spells(word, b"and") {
         Some(Joint::And)
-    } else if word == b"or".as_slice() {
+    } else if spells(word, b"or") {
         Some(Joint::Or)
     } else {
         None

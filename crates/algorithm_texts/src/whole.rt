@@ -93,8 +93,12 @@ fn set_entries(draft: &mut Draft) -> Result<(), AlgorithmFault>
     ensures named { IfErr result (λ fault. IsFaultOfNoCall (draft_view draft.old) fault) }
 {
     let fault = ReadFault::BadCall.at(draft.number);
-    let lock = call_of(draft, AlgorithmCall::Lock).ok_or(fault)?;
-    let unlock = call_of(draft, AlgorithmCall::Unlock).ok_or(fault)?;
+    let Some(lock) = call_of(draft, AlgorithmCall::Lock) else {
+        return Err(fault);
+    };
+    let Some(unlock) = call_of(draft, AlgorithmCall::Unlock) else {
+        return Err(fault);
+    };
     let recover = beginning(draft, AlgorithmCall::Recover);
     let withdraw = beginning(draft, AlgorithmCall::Withdraw);
     draft.algorithm.entries = Entries {

@@ -9,6 +9,7 @@ mod operands;
 mod page;
 mod places;
 mod statements;
+mod text_builder;
 
 use crate::likeness::is_alike;
 use crate::whole::read_algorithm;
@@ -16,6 +17,7 @@ use crate::writer::claims::{put_due_claims, put_other_claims};
 use crate::writer::labels::label_places;
 use crate::writer::operands::{first_of, put_declared};
 use crate::writer::page::AlgorithmText;
+use crate::writer::text_builder::TextBuilder;
 use algorithms::algorithm::{
     Algorithm, Declaration, Extent, NamedConstant, ProgressPromise, Promises,
 };
@@ -23,7 +25,6 @@ use algorithms::expression::{Expression, Operator};
 use algorithms::fault::AlgorithmFault;
 use algorithms::first_values::{FirstValues, InitializedAlgorithm};
 use std::alloc::{AllocError, Global};
-use std::fmt::Write;
 use thiserror::Error;
 
 /// Why an algorithm was not written.
@@ -43,65 +44,60 @@ impl From<AllocError> for WritingFault {
 }
 
 /// Writes a promise of at most this many own steps of a section, where there is one.
-fn put_step_bound(
-    page: &mut AlgorithmText,
-    section: &str,
-    most: Option<u64>,
-) -> Result<(), AllocError> {
-    match most {
-        Some(most) => write!(page.text, ", {section} within {most}"),
-        None => Ok(()),
+fn put_step_bound(text: &mut TextBuilder, section: &str, most: Option<u64>) {
+    if let Some(most) = most {
+        text.put(section);
+        text.put(" within ");
+        text.put_number(most);
     }
 }
 
 /// Writes what is promised of calls under way, where that is something.
-fn put_progress(
-    page: &mut AlgorithmText,
-    progress: Option<ProgressPromise>,
-) -> Result<(), AllocError> {
+fn put_progress(text: &mut TextBuilder, progress: Option<ProgressPromise>) {
     match progress {
-        Some(ProgressPromise::DeadlockFreedom) => page.text.push_str(", deadlock freedom"),
-        Some(ProgressPromise::StarvationFreedom) => page.text.push_str(", starvation freedom"),
-        None => Ok(()),
+        Some(ProgressPromise::DeadlockFreedom) => text.put(", deadlock freedom"),
+        Some(ProgressPromise::StarvationFreedom) => text.put(", starvation freedom"),
+        None => {}
     }
 }
 
 /// Writes what is promised.
-fn put_promises(page: &mut AlgorithmText, promises: Promises) -> Result<(), AllocError> {
-    page.text.push_str("promises exclusion")?;
-    if promises.reentry {
-        page.text.push_str(", reentry")?;
-    }
-    if promises.order {
-        page.text.push_str(", order")?;
-    }
-    put_step_bound(page, "exit", promises.exit)?;
-    put_step_bound(page, "recovery", promises.recovery)?;
-    put_step_bound(page, "doorway", promises.doorway)?;
-    put_progress(page, promises.progress)?;
-    page.end_line()
+fn put_promises(text: &mut TextBuilder, promises: Promises) {
+    text.put("promises exclusion");
+    text.put_when(promises.reentry, ", reentry");
+    text.put_when(promises.order, ", order");
+    put_step_bound(text, ", exit", promises.exit);
+    put_step_bound(text, ", recovery", promises.recovery);
+    put_step_bound(text, ", doorway", promises.doorway);
+    put_progress(text, promises.progress);
+}
+
+/// Writes the first line.
+fn put_title(text: &mut TextBuilder, algorithm: &Algorithm) {
+    text.put("algorithm ");
+    text.put(algorithm.name.as_str());
+    text.put(" for ");
+    text.put_number(algorithm.least);
+    text.put(" to ");
+    text.put_number(algorithm.most);
+    text.put(" processes");
 }
 
 /// Writes the first two lines.
-fn put_head(page: &mut AlgorithmText, algorithm: &Algorithm) -> Result<(), AllocError> {
-    page.text.push_str("algorithm ")?;
-    page.text.push_str(algorithm.name.as_str())?;
-    write!(
-        page.text,
-        " for {} to {} processes",
-        algorithm.least, algorithm.most
-    )?;
-    page.end_line()?;
-    put_promises(page, algorithm.promises)
+fn put_head(page: &mut AlgorithmText, algorithm: &Algorithm) {
+    put_title(&mut page.text, algorithm);
+    page.end_line();
+    put_promises(&mut page.text, algorithm.promises);
+    page.end_line();
 }
 
 /// Writes a constant.
-fn put_constant(page: &mut AlgorithmText, constant: &NamedConstant) -> Result<(), AllocError> {
-    page.text.push_str("constant ")?;
-    page.text.push_str(constant.name.as_str())?;
-    page.text.push_str(" = ")?;
-    put_declared(&mut page.text, &constant.value)?;
-    page.end_line()
+fn put_constant(page: &mut AlgorithmText, constant: &NamedConstant) {
+    page.text.put("constant ");
+    page.text.put(constant.name.as_str());
+    page.text.put(" = ");
+    put_declared(&mut page.text, &constant.value);
+    page.end_line();
 }
 
 /// The first value of the words of the declaration at a place, where one is said.
@@ -116,131 +112,101 @@ fn start_at(first_values: &Option<FirstValues>, place: usize) -> Option<&Express
 }
 
 /// Writes a value of a declaration after these words, where there is one.
-fn put_declared_if(
-    page: &mut AlgorithmText,
-    words: &str,
-    value: Option<&Expression>,
-) -> Result<(), AllocError> {
-    match value {
-        Some(value) => {
-            page.text.push_str(words)?;
-            put_declared(&mut page.text, value)
-        }
-        None => Ok(()),
+fn put_declared_if(text: &mut TextBuilder, words: &str, value: Option<&Expression>) {
+    if let Some(value) = value {
+        text.put(words);
+        put_declared(text, value);
     }
 }
 
 /// Writes a size in its brackets.
-fn put_size(page: &mut AlgorithmText, size: &Expression) -> Result<(), AllocError> {
-    page.text.push_str("[")?;
-    put_declared(&mut page.text, size)?;
-    page.text.push_str("]")
+fn put_size(text: &mut TextBuilder, size: &Expression) {
+    text.put("[");
+    put_declared(text, size);
+    text.put("]");
 }
 
 /// Writes the sizes of a declaration. The size of a table is the number of its rows, times that of the words in a row.
-fn put_sizes(page: &mut AlgorithmText, extent: &Extent) -> Result<(), AllocError> {
+fn put_sizes(text: &mut TextBuilder, extent: &Extent) {
     match extent {
-        Extent::One => Ok(()),
-        Extent::Each => page.text.push_str("[procs]"),
-        Extent::Array(size) => put_size(page, size),
+        Extent::One => {}
+        Extent::Each => text.put("[procs]"),
+        Extent::Array(size) => put_size(text, size),
         Extent::Table(size, columns) => {
-            put_size(page, first_of(Operator::Product, size).unwrap_or(size))?;
-            put_size(page, columns)
+            put_size(text, first_of(Operator::Product, size).unwrap_or(size));
+            put_size(text, columns);
         }
     }
 }
 
 /// Writes a declaration of a shared word, with this first value.
-fn put_shared(
-    page: &mut AlgorithmText,
-    declaration: &Declaration,
-    start: Option<&Expression>,
-) -> Result<(), AllocError> {
-    page.text.push_str("shared ")?;
-    page.text.push_str(declaration.name.as_str())?;
-    put_sizes(page, &declaration.extent)?;
-    put_declared_if(page, " up to ", declaration.bound.as_ref())?;
-    put_declared_if(page, " starts ", start)?;
-    put_declared_if(page, " at ", declaration.home.as_ref())?;
-    page.end_line()
+fn put_shared(text: &mut TextBuilder, declaration: &Declaration, start: Option<&Expression>) {
+    text.put("shared ");
+    text.put(declaration.name.as_str());
+    put_sizes(text, &declaration.extent);
+    put_declared_if(text, " up to ", declaration.bound.as_ref());
+    put_declared_if(text, " starts ", start);
+    put_declared_if(text, " at ", declaration.home.as_ref());
 }
 
 /// Writes all constants, and the claims whose lines come before them.
-fn put_constants(
-    alloc: Global,
-    page: &mut AlgorithmText,
-    algorithm: &Algorithm,
-) -> Result<(), AllocError> {
+fn put_constants(alloc: Global, page: &mut AlgorithmText, algorithm: &Algorithm) {
     for constant in &algorithm.constants {
-        put_due_claims(alloc, page, algorithm)?;
-        put_constant(page, constant)?;
+        put_due_claims(alloc, page, algorithm);
+        put_constant(page, constant);
     }
-    Ok(())
 }
 
 /// Writes all shared words, and the claims whose lines come before them.
-fn put_shared_words(
-    alloc: Global,
-    page: &mut AlgorithmText,
-    initialized: &InitializedAlgorithm,
-) -> Result<(), AllocError> {
+fn put_shared_words(alloc: Global, page: &mut AlgorithmText, initialized: &InitializedAlgorithm) {
     let algorithm = &initialized.algorithm;
     let mut place: usize = 0;
     for declaration in &algorithm.declarations {
-        put_due_claims(alloc, page, algorithm)?;
+        put_due_claims(alloc, page, algorithm);
         let start = start_at(&initialized.first_values, place);
-        put_shared(page, declaration, start)?;
+        put_shared(&mut page.text, declaration, start);
+        page.end_line();
         place = place.saturating_add(1);
     }
-    Ok(())
 }
 
 /// Writes all declarations and claims. Where there is a claim, the shared words come first, which it may name.
-fn put_declarations(
-    alloc: Global,
-    page: &mut AlgorithmText,
-    initialized: &InitializedAlgorithm,
-) -> Result<(), AllocError> {
+fn put_declarations(alloc: Global, page: &mut AlgorithmText, initialized: &InitializedAlgorithm) {
     let algorithm = &initialized.algorithm;
     if algorithm.claims.is_empty() {
-        put_constants(alloc, page, algorithm)?;
-        put_shared_words(alloc, page, initialized)?;
+        put_constants(alloc, page, algorithm);
+        put_shared_words(alloc, page, initialized);
     } else {
-        put_shared_words(alloc, page, initialized)?;
-        put_constants(alloc, page, algorithm)?;
+        put_shared_words(alloc, page, initialized);
+        put_constants(alloc, page, algorithm);
     }
-    put_private_names(alloc, page, algorithm)?;
-    put_other_claims(alloc, page, algorithm)
+    put_private_names(alloc, page, algorithm);
+    put_other_claims(alloc, page, algorithm);
 }
 
 /// Writes the names that last, and the claims whose lines come before them.
-fn put_private_names(
-    alloc: Global,
-    page: &mut AlgorithmText,
-    algorithm: &Algorithm,
-) -> Result<(), AllocError> {
+fn put_private_names(alloc: Global, page: &mut AlgorithmText, algorithm: &Algorithm) {
     let mut place = 0;
     for name in &algorithm.names {
         if place < algorithm.lasting {
-            put_due_claims(alloc, page, algorithm)?;
-            page.text.push_str("private ")?;
-            page.text.push_str(name.as_str())?;
-            page.end_line()?;
+            put_due_claims(alloc, page, algorithm);
+            page.text.put("private ");
+            page.text.put(name.as_str());
+            page.end_line();
             place += 1;
         }
     }
-    Ok(())
 }
 
 /// Writes all lines of the calls.
-fn put_calls(page: &mut AlgorithmText, algorithm: &Algorithm) -> Result<(), AllocError> {
+fn put_calls(page: &mut AlgorithmText, algorithm: &Algorithm) {
     let mut next = 0;
     for place in 0..algorithm.lines.len() {
         if next <= place {
-            next = page.put_place(algorithm, place)?;
+            next = page.put_place(algorithm, place);
         }
     }
-    page.close(algorithm.lines.len())
+    page.close(algorithm.lines.len());
 }
 
 /// A text that may spell the algorithm.
@@ -251,10 +217,10 @@ fn draft_text(
 ) -> Result<String, AllocError> {
     let labels = label_places(alloc, &algorithm.algorithm)?;
     let mut page = AlgorithmText::new(alloc, labels, prefers_else);
-    put_head(&mut page, &algorithm.algorithm)?;
-    put_declarations(alloc, &mut page, algorithm)?;
-    put_calls(&mut page, &algorithm.algorithm)?;
-    Ok(page.text)
+    put_head(&mut page, &algorithm.algorithm);
+    put_declarations(alloc, &mut page, algorithm);
+    put_calls(&mut page, &algorithm.algorithm);
+    page.text.into_text()
 }
 
 /// Whether a text spells the algorithm.

@@ -1,15 +1,13 @@
 //! Writes values and conditions, with as few brackets as they need.
 
+use crate::writer::text_builder::TextBuilder;
 use algorithms::condition::{Comparison, Condition, Pair};
 use algorithms::expression::{Expression, Operator};
-use std::alloc::AllocError;
-use std::fmt::Write;
 
 /// Writes the name of this index, or nothing where there is none.
-pub fn put_name(text: &mut String, names: &[String], name: usize) -> Result<(), AllocError> {
-    match names.get(name) {
-        Some(name) => text.push_str(name.as_str()),
-        None => Ok(()),
+pub fn put_name(text: &mut TextBuilder, names: &[String], name: usize) {
+    if let Some(name) = names.get(name) {
+        text.put(name.as_str());
     }
 }
 
@@ -70,87 +68,73 @@ fn comparison_text(comparison: Comparison) -> &'static str {
 
 /// Writes a value, in brackets where its last operator binds less strongly than this. `me` is the word for the process's number.
 fn put_value_of(
-    text: &mut String,
+    text: &mut TextBuilder,
     names: &[String],
     me: &str,
     value: &Expression,
     least: u64,
-) -> Result<(), AllocError> {
+) {
     match value {
-        Expression::Number(number) => write!(text, "{number}"),
+        Expression::Number(number) => text.put_number(*number),
         Expression::Private(name) => put_name(text, names, *name),
-        Expression::Me => text.push_str(me),
-        Expression::Procs => text.push_str("procs"),
-        Expression::Limit => text.push_str("limit"),
+        Expression::Me => text.put(me),
+        Expression::Procs => text.put("procs"),
+        Expression::Limit => text.put("limit"),
         Expression::Joined(operator, first, second) => {
             let own = strength(*operator);
             if own > 5 {
-                text.push_str(operator_text(*operator))?;
-                text.push_str("(")?;
-                put_value_of(text, names, me, first, 1)?;
-                text.push_str(", ")?;
-                put_value_of(text, names, me, second, 1)?;
-                return text.push_str(")");
-            }
-            if own < least {
-                text.push_str("(")?;
-            }
-            put_value_of(text, names, me, first, own)?;
-            text.push_str(operator_text(*operator))?;
-            put_value_of(text, names, me, second, own.saturating_add(1))?;
-            if own < least {
-                text.push_str(")")
+                text.put(operator_text(*operator));
+                text.put("(");
+                put_value_of(text, names, me, first, 1);
+                text.put(", ");
+                put_value_of(text, names, me, second, 1);
+                text.put(")");
             } else {
-                Ok(())
+                text.put_when(own < least, "(");
+                put_value_of(text, names, me, first, own);
+                text.put(operator_text(*operator));
+                put_value_of(text, names, me, second, own.saturating_add(1));
+                text.put_when(own < least, ")");
             }
         }
     }
 }
 
 /// Writes a value of a line, in brackets where its last operator binds less strongly than this.
-pub fn put_value(
-    text: &mut String,
-    names: &[String],
-    value: &Expression,
-    least: u64,
-) -> Result<(), AllocError> {
-    put_value_of(text, names, "me", value, least)
+pub fn put_value(text: &mut TextBuilder, names: &[String], value: &Expression, least: u64) {
+    put_value_of(text, names, "me", value, least);
 }
 
 /// Writes an index in its brackets.
-fn put_index(text: &mut String, names: &[String], index: &Expression) -> Result<(), AllocError> {
-    text.push_str("[")?;
-    put_value(text, names, index, 1)?;
-    text.push_str("]")
+fn put_index(text: &mut TextBuilder, names: &[String], index: &Expression) {
+    text.put("[");
+    put_value(text, names, index, 1);
+    text.put("]");
 }
 
 /// Writes the index or the two indexes of the word at a place in an array.
-pub fn put_indexes(
-    text: &mut String,
-    names: &[String],
-    place: &Expression,
-) -> Result<(), AllocError> {
+pub fn put_indexes(text: &mut TextBuilder, names: &[String], place: &Expression) {
     match table_indexes(place) {
         Some((row, column)) => {
-            put_index(text, names, row)?;
-            put_index(text, names, column)
+            put_index(text, names, row);
+            put_index(text, names, column);
         }
         None => put_index(text, names, place),
     }
 }
 
 /// Writes a value of a declaration, which has no private name and in which `me` is the index of a word.
-pub fn put_declared(text: &mut String, value: &Expression) -> Result<(), AllocError> {
-    put_value_of(text, &[], "owner", value, 1)
+pub fn put_declared(text: &mut TextBuilder, value: &Expression) {
+    put_value_of(text, &[], "owner", value, 1);
 }
 
 /// Writes two values as a pair.
-fn put_pair(text: &mut String, names: &[String], pair: &Pair) -> Result<(), AllocError> {
-    text.push_str("(")?;
-    put_value(text, names, &pair.first, 1)?;
-    text.push_str(", ")?;
-    put_value(text, names, &pair.second, 1)?;
-    text.push_str(")")
+fn put_pair(text: &mut TextBuilder, names: &[String], pair: &Pair) {
+    text.put("(");
+    put_value(text, names, &pair.first, 1);
+    text.put(", ");
+    put_value(text, names, &pair.second, 1);
+    text.put(")");
 }
 
 /// Whether a comparison is that one of these names is 1 which says so of itself.
@@ -165,57 +149,57 @@ fn is_so(tests: &[bool], comparison: Comparison, first: &Expression, second: &Ex
 
 /// Writes a comparison of two values.
 fn put_comparison(
-    text: &mut String,
+    text: &mut TextBuilder,
     names: &[String],
     comparison: Comparison,
     first: &Expression,
     second: &Expression,
-) -> Result<(), AllocError> {
-    put_value(text, names, first, 3)?;
-    text.push_str(comparison_text(comparison))?;
-    put_value(text, names, second, 4)
+) {
+    put_value(text, names, first, 3);
+    text.put(comparison_text(comparison));
+    put_value(text, names, second, 4);
 }
 
 /// Writes a condition, in brackets where its last operator binds less strongly than this. `tests`: which names say of themselves that
 /// they are 1.
 pub fn put_condition(
-    text: &mut String,
+    text: &mut TextBuilder,
     names: &[String],
     tests: &[bool],
     condition: &Condition,
     least: u64,
-) -> Result<(), AllocError> {
+) {
     match condition {
         Condition::Compare(comparison, first, second) => {
             if is_so(tests, *comparison, first, second) {
                 put_value(text, names, first, 3)
             } else {
-                put_comparison(text, names, *comparison, first, second)
+                put_comparison(text, names, *comparison, first, second);
             }
         }
         Condition::ComparePairs(comparison, first, second) => {
-            put_pair(text, names, first)?;
-            text.push_str(comparison_text(*comparison))?;
-            put_pair(text, names, second)
+            put_pair(text, names, first);
+            text.put(comparison_text(*comparison));
+            put_pair(text, names, second);
         }
         Condition::And(first, second) => {
-            text.push_str(if least > 2 { "(" } else { "" })?;
-            put_condition(text, names, tests, first, 2)?;
-            text.push_str(" and ")?;
-            put_condition(text, names, tests, second, 3)?;
-            text.push_str(if least > 2 { ")" } else { "" })
+            text.put_when(least > 2, "(");
+            put_condition(text, names, tests, first, 2);
+            text.put(" and ");
+            put_condition(text, names, tests, second, 3);
+            text.put_when(least > 2, ")");
         }
         Condition::Or(first, second) => {
-            text.push_str(if least > 1 { "(" } else { "" })?;
-            put_condition(text, names, tests, first, 1)?;
-            text.push_str(" or ")?;
-            put_condition(text, names, tests, second, 2)?;
-            text.push_str(if least > 1 { ")" } else { "" })
+            text.put_when(least > 1, "(");
+            put_condition(text, names, tests, first, 1);
+            text.put(" or ");
+            put_condition(text, names, tests, second, 2);
+            text.put_when(least > 1, ")");
         }
         Condition::Not(condition) => {
-            text.push_str("not (")?;
-            put_condition(text, names, tests, condition, 1)?;
-            text.push_str(")")
+            text.put("not (");
+            put_condition(text, names, tests, condition, 1);
+            text.put(")");
         }
     }
 }

@@ -2,10 +2,10 @@
 
 use crate::writer::places::{call_end, free_lines, is_entry, is_led_to, may_be_block, number_at};
 use crate::writer::statements::{put_deed_word, put_form};
+use crate::writer::text_builder::TextBuilder;
 use algorithms::algorithm::Algorithm;
 use algorithms::line::{AlgorithmLine, LineKind, LocalLine};
-use std::alloc::{AllocError, Global};
-use std::fmt::Write;
+use std::alloc::Global;
 
 /// The greatest number of lines of a text.
 const MOST_LINES: u64 = 4096;
@@ -31,7 +31,7 @@ struct OpenBlock {
 /// A text that is written line by line.
 #[derive(Drop)]
 pub struct AlgorithmText {
-    pub text: String,
+    pub text: TextBuilder,
     /// How many lines it has.
     count: u64,
     open: Vec<OpenBlock>,
@@ -49,7 +49,7 @@ impl AlgorithmText {
     /// An empty text, of an algorithm whose claims name the labels at these places.
     pub fn new(alloc: Global, labels: Vec<usize>, prefers_else: bool) -> AlgorithmText {
         AlgorithmText {
-            text: String::new(alloc),
+            text: TextBuilder::new(alloc),
             count: 0,
             open: Vec::new(alloc),
             ways: Vec::new(alloc),
@@ -60,9 +60,9 @@ impl AlgorithmText {
     }
 
     /// Ends a line.
-    pub fn end_line(&mut self) -> Result<(), AllocError> {
+    pub fn end_line(&mut self) {
         self.count = self.count.saturating_add(1);
-        self.text.push_str("\n")
+        self.text.put("\n");
     }
 
     /// The number of the next line.
@@ -71,40 +71,43 @@ impl AlgorithmText {
     }
 
     /// Writes empty lines, so that the next line has this number at least.
-    pub fn fill(&mut self, number: u64) -> Result<(), AllocError> {
+    pub fn fill(&mut self, number: u64) {
         for _ in self.count.saturating_add(1)..number.min(MOST_LINES) {
-            self.end_line()?;
+            self.end_line();
         }
-        Ok(())
     }
 
     /// Writes the spaces before a line of a call.
-    fn indent(&mut self) -> Result<(), AllocError> {
+    fn indent(&mut self) {
         for _ in 0..self.open.len() {
-            self.text.push_str("  ")?;
+            self.text.put("  ");
         }
-        self.text.push_str("  ")
+        self.text.put("  ");
     }
 
     /// Writes a line of one word in the block around the one that is open last, and leaves that block.
-    fn leave(&mut self, word: &str) -> Result<(), AllocError> {
+    fn leave(&mut self, word: &str) {
         self.open.pop();
-        self.indent()?;
-        self.text.push_str(word)
+        self.indent();
+        self.text.put(word);
+    }
+
+    /// Writes the end of the block that is open last.
+    fn put_end(&mut self) {
+        self.leave("end");
+        self.end_line();
     }
 
     /// Ends the blocks of an `if` that end before a place.
-    pub fn close(&mut self, place: usize) -> Result<(), AllocError> {
+    pub fn close(&mut self, place: usize) {
         for _ in 0..DEEPEST {
             match self.open.last().copied() {
                 Some(block) if block.start != BlockStart::For && block.end <= place => {
-                    self.leave("end")?;
-                    self.end_line()?;
+                    self.put_end();
                 }
-                _ => return Ok(()),
+                _ => return,
             }
         }
-        Ok(())
     }
 
     /// Whether a goto of the text leads to a place, or a claim names the label there.
@@ -125,20 +128,20 @@ impl AlgorithmText {
     }
 
     /// Writes that a call begins, and a label, where they stand before a place.
-    fn put_front(&mut self, algorithm: &Algorithm, place: usize) -> Result<(), AllocError> {
+    fn put_front(&mut self, algorithm: &Algorithm, place: usize) {
         let begins = is_entry(algorithm, place);
         let has_label = self.has_label(algorithm, place);
         let lines = u64::from(begins).saturating_add(u64::from(has_label));
-        self.fill(number_at(algorithm, place).saturating_sub(lines))?;
+        self.fill(number_at(algorithm, place).saturating_sub(lines));
         if begins {
-            self.text.push_str(call_line(algorithm, place))?;
-            self.end_line()?;
+            self.text.put(call_line(algorithm, place));
+            self.end_line();
         }
         if has_label {
-            write!(self.text, "at{place}:")?;
-            self.end_line()?;
+            self.text.put_label(place);
+            self.text.put(":");
+            self.end_line();
         }
-        Ok(())
     }
 
     /// The last place that may end a block which begins after this place, in the block around the one that is open last.
@@ -190,30 +193,29 @@ impl AlgorithmText {
     }
 
     /// Writes an `else`, whose block ends before this place.
-    fn put_else(&mut self, place: usize, end: usize) -> Result<(), AllocError> {
-        self.leave("else")?;
-        self.ways.push(place)?;
-        self.open.push(OpenBlock {
-            start: BlockStart::Else,
-            end,
-        })?;
-        self.end_line()
+    fn put_else(&mut self, place: usize, end: usize) {
+        self.leave("else");
+        if self.ways.push(place).is_err() {
+            self.text.lose();
+        }
+        self.open(BlockStart::Else, end);
     }
 
-    /// Opens a block.
-    fn open(&mut self, start: BlockStart, end: usize) -> Result<(), AllocError> {
-        self.end_line()?;
-        self.open.push(OpenBlock { start, end })?;
-        Ok(())
+    /// Ends a line that opens a block.
+    fn open(&mut self, start: BlockStart, end: usize) {
+        self.end_line();
+        if self.open.push(OpenBlock { start, end }).is_err() {
+            self.text.lose();
+        }
     }
 
     /// Writes a statement that begins no block, with the deed of its line, and answers the place after it.
-    fn put_statement(&mut self, algorithm: &Algorithm, place: usize) -> Result<usize, AllocError> {
+    fn put_statement(&mut self, algorithm: &Algorithm, place: usize) -> usize {
         let next = place.saturating_add(1);
         let Some(line) = algorithm.lines.get(place) else {
-            return Ok(next);
+            return next;
         };
-        put_form(&mut self.text, algorithm, &line.form)?;
+        put_form(&mut self.text, algorithm, &line.form);
         match (&line.form, algorithm.lines.get(next)) {
             (
                 LineKind::Access(_),
@@ -224,77 +226,70 @@ impl AlgorithmText {
                     },
                 ),
             ) if *number == line.number => {
-                self.text.push_str(" ")?;
-                put_deed_word(&mut self.text, *deed)?;
-                Ok(next.saturating_add(1))
+                self.text.put(" ");
+                put_deed_word(&mut self.text, *deed);
+                next.saturating_add(1)
             }
-            _ => Ok(next),
+            _ => next,
         }
     }
 
     /// Writes a statement on a line of its own, and answers the place after it.
-    fn put_alone(&mut self, algorithm: &Algorithm, place: usize) -> Result<usize, AllocError> {
-        self.indent()?;
-        let next = self.put_statement(algorithm, place)?;
-        self.end_line()?;
-        Ok(next)
+    fn put_alone(&mut self, algorithm: &Algorithm, place: usize) -> usize {
+        self.indent();
+        let next = self.put_statement(algorithm, place);
+        self.end_line();
+        next
     }
 
     /// Writes an `if`, with the statement of its line, and answers the place after them.
-    fn put_if(
-        &mut self,
-        algorithm: &Algorithm,
-        place: usize,
-        otherwise: usize,
-    ) -> Result<usize, AllocError> {
+    fn put_if(&mut self, algorithm: &Algorithm, place: usize, otherwise: usize) -> usize {
         let next = place.saturating_add(1);
-        self.indent()?;
-        self.put_statement(algorithm, place)?;
+        self.indent();
+        self.put_statement(algorithm, place);
         if number_at(algorithm, next) == number_at(algorithm, place) {
-            self.text.push_str(" ")?;
-            let after = self.put_statement(algorithm, next)?;
-            self.end_line()?;
-            return Ok(after);
+            self.text.put(" ");
+            let after = self.put_statement(algorithm, next);
+            self.end_line();
+            return after;
         }
-        self.open(BlockStart::If, otherwise)?;
-        Ok(next)
+        self.open(BlockStart::If, otherwise);
+        next
     }
 
     /// Writes the lines at a place, and answers the place after them.
-    pub fn put_place(&mut self, algorithm: &Algorithm, place: usize) -> Result<usize, AllocError> {
+    pub fn put_place(&mut self, algorithm: &Algorithm, place: usize) -> usize {
         let next = place.saturating_add(1);
-        self.close(place)?;
-        self.put_front(algorithm, place)?;
+        self.close(place);
+        self.put_front(algorithm, place);
         let Some(line) = algorithm.lines.get(place) else {
-            return Ok(next);
+            return next;
         };
         match &line.form {
             LineKind::Local(LocalLine::Branch { otherwise, .. }) => {
                 return self.put_if(algorithm, place, *otherwise);
             }
             LineKind::Local(LocalLine::First { after, .. }) => {
-                self.indent()?;
-                self.put_statement(algorithm, place)?;
-                self.open(BlockStart::For, after.saturating_sub(1))?;
+                self.indent();
+                self.put_statement(algorithm, place);
+                self.open(BlockStart::For, after.saturating_sub(1));
             }
             LineKind::Local(LocalLine::Goto(target)) if self.is_way(algorithm, place, *target) => {
-                self.put_else(place, *target)?;
+                self.put_else(place, *target);
             }
             LineKind::Local(LocalLine::Next { .. }) => {
-                self.leave("end")?;
-                self.end_line()?;
+                self.put_end();
             }
             LineKind::Done(_) if !is_led_to(algorithm, place) && self.ends_loop(place) => {
-                self.leave("end")?;
-                self.end_line()?;
+                self.put_end();
             }
             LineKind::Done(_) if !is_led_to(algorithm, place) && self.ends_if(place) => {
                 let end = self.free_end(algorithm, place);
-                self.put_else(place, end)?;
+                self.put_else(place, end);
             }
             _ => return self.put_alone(algorithm, place),
         }
-        Ok(next)
+        next
     }
 }
 

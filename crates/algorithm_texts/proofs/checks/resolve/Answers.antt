@@ -1,4 +1,5 @@
 use Rattle.std.proofs.Common.{◌≡◌, ℕ, ◌+◌, map, drop, Some, sym, ap, ◌∙◌}
+use Rattle.std.proofs.lemmas.List.{at_drop_all}
 use Rattle.std.specs.List.{find}
 use Rattle.algorithms.specs.Faults.{fault_of}
 use Rattle.algorithms.specs.declared.fault.ReadFault.TheVariants.{BadLabel}
@@ -6,7 +7,8 @@ use Rattle.algorithm_texts.specs.declared.lines.Jump.{Jump}
 use Rattle.algorithm_texts.specs.Drafts.{line_of}
 use Rattle.algorithm_texts.specs.FinishedDrafts.{jumps_led}
 use Rattle.algorithm_texts.specs.TextFaults.{leads_nowhere, number_at}
-use Rattle.algorithm_texts.proofs.CallFaults.{found_here, jump_leads, jump_numbers, leads_to_none, of_another, pass_on, led_on, skip_on}
+use Rattle.algorithm_texts.proofs.CallFaults.{found_here, jump_leads, jump_numbers, leads_to_none, lost_on, of_another, pass_on, led_on, skip_on}
+use Rattle.algorithm_texts.proofs.RefusedCalls.{on_err}
 use Rattle.algorithm_texts.proofs.RunFaults.{err_named}
 use Rattle.algorithm_texts.proofs.checks.resolve.Goals as goal
 use Rattle.algorithm_texts.proofs.checks.resolve.Goals.{then-is_within+in_ok-lead, else-is_within}
@@ -44,6 +46,17 @@ loop-jump-preserved c =
             numbers = λ k. ap (λ ls. number_at ls k) same ∙ was.numbers k;
           }
     ]
+
+pub returns-clause-ok : goal.returns-clause-ok
+returns-clause-ok c =
+    sym c.loop-jump.invariant.led
+    ∙ at_drop_all (λ js. jumps_led c.args.labels.now c.args.blocks.now c.args.call js (map line_of c.loop-jump.lines.items)) c.args.jumps.now c.loop-jump.jump-index c.loop-jump-test.false
+
+pub returns-in_err-lead-clause-err : goal.returns-in_err-lead-clause-err
+returns-in_err-lead-clause-err c =
+    on_err c.from_residual.result (sym c.loop-jump.invariant.led
+    ∙ lost_on c.args.labels.now c.args.blocks.now c.args.call c.args.jumps.now (map line_of c.loop-jump.lines.items) c.loop-jump.jump-index c.jump-item.result
+    c.loop-jump-test.true c.jump-item.is (sym c.is_within.ensures ∙ c.if-is_within.true) c.in_err-lead.ensures.err)
 
 pub returns-in_err-lead-clause-named : goal.returns-in_err-lead-clause-named
 returns-in_err-lead-clause-named c =

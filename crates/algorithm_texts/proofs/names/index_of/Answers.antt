@@ -1,11 +1,5 @@
-use Rattle.std.proofs.Common.{◌∙◌, bytes_eq, string_bytes, rules}
-use Rattle.std.proofs.lemmas.Iterator.{YieldsList-from_slice}
-use Rattle.std.proofs.lemmas.Iterator.Search.{position_from_yields_List}
-use borrow.Author.Tests.{tests}
-use Rattle.algorithm_texts.proofs.Places.{position_map}
+use Rattle.std.proofs.Common.{◌∙◌, ap, bytes_eq, map, position, string_bytes}
 use Rattle.algorithm_texts.proofs.names.index_of.Goals as goal
 
 pub returns : goal.returns
-returns c =
-    position_from_yields_List (λ name. bytes_eq (string_bytes name) c.args.word.now) _ _ _ c.position.ensures.ran (YieldsList-from_slice c.args.algorithm.now.names.items cc) (λ x b q k. search (rules, tests))
-    ∙ position_map (λ name. bytes_eq name c.args.word.now) (λ name. string_bytes name) c.args.algorithm.now.names.items
+returns c = c.text_place.ensures ∙ ap (λ texts. position (λ other. bytes_eq other c.args.word.now) (map (λ other. string_bytes other) texts)) c.as_slice.ensures.value

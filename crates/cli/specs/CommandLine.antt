@@ -4,12 +4,10 @@ use Rattle.clap.specs.Words.{App, Rule, Shape, Text, new_rule, app_of, with_subc
 use Rattle.clap.specs.declared.builder.command.Command.{Command as Parser}
 use Rattle.clap.specs.declared.builder.command.Command.TheViews.{out-Command}
 use Rattle.clap.specs.Simple.{new_shape}
-use Rattle.clap.specs.declared.builder.action.ArgAction.{ArgAction}
 use Rattle.clap.specs.declared.builder.action.ArgAction.TheVariants.{Set, SetTrue, Append}
 use Rattle.clap.specs.declared.builder.value_parser.ValueParser.TheVariants.{Unsigned}
 use Rattle.cli.specs.declared.arguments.argument.Argument.{Argument}
-use Rattle.cli.specs.declared.arguments.argument.ArgumentForm.{ArgumentForm}
-use Rattle.cli.specs.declared.arguments.argument.ArgumentForm.TheVariants as forms
+use Rattle.cli.specs.declared.arguments.argument.Argument.TheVariants.{Flag, Text as TextOption, RequiredText, Number, RequiredNumber, Optional, Word, RequiredWord, Words as AllWords}
 use Rattle.cli.specs.declared.arguments.parser.ParserPart.{ParserPart}
 use Rattle.cli.specs.declared.arguments.parser.ParserPart.TheVariants as parts
 
@@ -41,26 +39,17 @@ words name = record (new_rule name) { action = Some Append }
 abbrev pub required_rule : Rule → Rule
 required_rule rule = record rule { required = true }
 
--- what is done with a value of this form
-abbrev pub action_of_form : ArgumentForm → ArgAction
-action_of_form forms.Flag = SetTrue
-action_of_form forms.Text = Set
-action_of_form forms.Number = Set
-action_of_form (forms.Optional without) = Set
-action_of_form forms.Word = Set
-action_of_form forms.Words = Append
-
--- an argument of this form and name that can be left out
-abbrev pub rule_of_form : ArgumentForm → Text → Rule
-rule_of_form forms.Flag = flag
-rule_of_form forms.Text = option
-rule_of_form forms.Number = number
-rule_of_form (forms.Optional without) = optional without.now
-rule_of_form forms.Word = word
-rule_of_form forms.Words = words
-
+-- how `clap` reads an argument
 abbrev pub rule_of_argument : Argument → Rule
-rule_of_argument argument = record (rule_of_form argument.form argument.name.now) { required = argument.required }
+rule_of_argument (Flag name help) = flag name.now
+rule_of_argument (TextOption name value help) = option name.now
+rule_of_argument (RequiredText name value help) = required_rule (option name.now)
+rule_of_argument (Number name value help) = number name.now
+rule_of_argument (RequiredNumber name value help) = required_rule (number name.now)
+rule_of_argument (Optional name value help without) = optional without.now name.now
+rule_of_argument (Word name help) = word name.now
+rule_of_argument (RequiredWord name help) = required_rule (word name.now)
+rule_of_argument (AllWords name help) = words name.now
 
 -- a command with these arguments, and no command below it
 abbrev pub part : Text → List Rule → Shape

@@ -8,7 +8,7 @@ use rmecore::Happened;
 use rmeworld::{Answer, Stepped};
 
 /// What a process does in one row.
-#[derive(Clone, Copy, Debug, PartialEq, Eq)]
+#[derive(Clone, Copy)]
 pub enum RowAct {
     /// A silent step: it has no deed and ends no call.
     /// A blocked step counts how often it was taken with no other step between.
@@ -20,7 +20,7 @@ pub enum RowAct {
 }
 
 /// One row of a drawing.
-#[derive(Clone, Copy, Debug, PartialEq, Eq)]
+#[derive(Clone, Copy)]
 pub struct DiagramRow {
     pub p: u64,
     pub act: RowAct,

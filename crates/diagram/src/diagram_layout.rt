@@ -11,7 +11,7 @@ use schedule::Verdict;
 use schedule::texts::head::Head;
 
 /// The style of a drawing.
-#[derive(Clone, Copy, Debug, PartialEq, Eq)]
+#[derive(Clone, Copy)]
 pub enum Style {
     /// A column for each process, a row for each step or crash.
     Text,
@@ -20,7 +20,7 @@ pub enum Style {
 }
 
 /// What all rows of a drawing are drawn with.
-#[derive(Clone, Copy, Debug, PartialEq, Eq)]
+#[derive(Clone, Copy)]
 pub struct DiagramLayout {
     pub style: Style,
     pub layout: Layout,

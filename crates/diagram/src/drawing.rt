@@ -21,7 +21,7 @@ use schedule::{OutOfMemory, Schedule, Verdict};
 use std::alloc::Global;
 
 /// How a run ends.
-#[derive(Clone, Copy, Debug, PartialEq, Eq)]
+#[derive(Clone, Copy)]
 pub enum End {
     /// All lines were played. The verdict is on all deeds.
     Judged(Verdict),
@@ -34,7 +34,7 @@ pub enum End {
 }
 
 /// The rows of a schedule's run, and how the run ends.
-#[derive(Debug, Drop)]
+#[derive(Drop)]
 pub struct Drawing {
     /// The header of the schedule.
     pub head: Head,

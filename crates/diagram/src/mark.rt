@@ -1,7 +1,7 @@
 //! How a row is marked on the lifeline of its process.
 
 /// How a row is marked on the lifeline of its process.
-#[derive(Clone, Copy, Debug, PartialEq, Eq)]
+#[derive(Clone, Copy)]
 pub enum Mark {
     /// A dot, with what the process does.
     Step,

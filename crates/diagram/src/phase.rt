@@ -9,7 +9,7 @@ use redomail::Deed;
 use rmecore::{Kind, Outer};
 
 /// The phase of a process, as its steps show it.
-#[derive(Clone, Copy, Debug, PartialEq, Eq)]
+#[derive(Clone, Copy)]
 pub enum LifelinePhase {
     /// It is outside, and not on its way in.
     Rest,

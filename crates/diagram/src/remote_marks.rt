@@ -10,7 +10,7 @@ use algorithms::{Address, Copies, MemoryModel, WordAccess};
 use std::alloc::AllocError;
 
 /// In which models of memory an access is remote.
-#[derive(Clone, Copy, Debug, PartialEq, Eq)]
+#[derive(Clone, Copy)]
 pub struct RemoteMarks {
     pub distributed: bool,
     pub write_through: bool,

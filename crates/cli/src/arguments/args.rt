@@ -7,7 +7,7 @@ use algorithms::{MemoryModel, PassageKind};
 use crashlab::Variant;
 
 /// `replay`: runs a schedule and prints its report.
-#[derive(Debug, Drop, PartialEq, Eq)]
+#[derive(Debug, Drop)]
 pub struct ReplayArgs {
     /// Print one JSON object of the report's lines; with `each` one object for each step.
     pub json: bool,
@@ -23,7 +23,7 @@ pub struct ReplayArgs {
 }
 
 /// `replay --algorithm`: runs a schedule on an algorithm, and prints its report.
-#[derive(Debug, Drop, PartialEq, Eq)]
+#[derive(Debug, Drop)]
 pub struct AlgorithmReplayArgs {
     /// The file of the algorithm's text.
     pub algorithm: String,
@@ -36,7 +36,7 @@ pub struct AlgorithmReplayArgs {
 }
 
 /// `run`: senders send through the running lock, each on a thread of its own, and crash at random.
-#[derive(Clone, Copy, Debug, PartialEq, Eq)]
+#[derive(Clone, Copy, Debug)]
 pub struct RunArgs {
     /// The number of senders.
     pub procs: u64,
@@ -51,7 +51,7 @@ pub struct RunArgs {
 }
 
 /// `hunt`: draws schedules until one goes wrong.
-#[derive(Clone, Copy, Debug, PartialEq, Eq)]
+#[derive(Clone, Copy, Debug)]
 pub struct HuntArgs {
     pub variant: Variant,
     pub seed: u64,
@@ -67,7 +67,7 @@ pub struct HuntArgs {
 }
 
 /// `hunt --algorithm`: draws schedules until an algorithm goes wrong.
-#[derive(Debug, Drop, PartialEq, Eq)]
+#[derive(Debug, Drop)]
 pub struct AlgorithmHuntArgs {
     /// The file of the algorithm's text.
     pub algorithm: String,
@@ -86,7 +86,7 @@ pub struct AlgorithmHuntArgs {
 }
 
 /// The calls that a search starts.
-#[derive(Clone, Copy, Debug, PartialEq, Eq)]
+#[derive(Clone, Copy, Debug)]
 pub struct Alphabet {
     pub lock: bool,
     pub unlock: bool,
@@ -99,7 +99,7 @@ pub struct Alphabet {
 }
 
 /// The cycles in which a search looks for a process that starves.
-#[derive(Clone, Copy, Debug, PartialEq, Eq)]
+#[derive(Clone, Copy, Debug)]
 pub enum Cycles {
     /// Those in which nobody gives up.
     Nobody,
@@ -108,7 +108,7 @@ pub enum Cycles {
 }
 
 /// `explore`: tries all schedules up to a bound, the shorter before the longer.
-#[derive(Clone, Copy, Debug, PartialEq, Eq)]
+#[derive(Clone, Copy, Debug)]
 pub struct ExploreArgs {
     pub variant: Variant,
     pub procs: u64,
@@ -133,7 +133,7 @@ pub struct ExploreArgs {
 }
 
 /// The calls of an algorithm that a search starts.
-#[derive(Clone, Copy, Debug, PartialEq, Eq)]
+#[derive(Clone, Copy, Debug)]
 pub struct AlgorithmCalls {
     pub lock: bool,
     pub unlock: bool,
@@ -142,7 +142,7 @@ pub struct AlgorithmCalls {
 }
 
 /// `explore --algorithm`: tries all schedules of an algorithm up to a bound, the shorter before the longer.
-#[derive(Debug, Drop, PartialEq, Eq)]
+#[derive(Debug, Drop)]
 pub struct AlgorithmExploreArgs {
     /// The file of the algorithm's text.
     pub algorithm: String,
@@ -167,7 +167,7 @@ pub struct AlgorithmExploreArgs {
 }
 
 /// `cost`: looks for the schedule on which a passage of an algorithm has the most remote references.
-#[derive(Debug, Drop, PartialEq, Eq)]
+#[derive(Debug, Drop)]
 pub struct CostArgs {
     /// The search whose schedules they are.
     pub search: AlgorithmExploreArgs,
@@ -176,7 +176,7 @@ pub struct CostArgs {
 }
 
 /// `cost --mean`: counts the remote references of the passages of an algorithm on random schedules.
-#[derive(Debug, Drop, PartialEq, Eq)]
+#[derive(Debug, Drop)]
 pub struct MeanCostArgs {
     /// The file of the algorithm's text.
     pub algorithm: String,
@@ -190,7 +190,7 @@ pub struct MeanCostArgs {
 }
 
 /// `export`: writes the model of an algorithm in another tool's language.
-#[derive(Debug, Drop, PartialEq, Eq)]
+#[derive(Debug, Drop)]
 pub struct ExportArgs {
     /// The file of the algorithm.
     pub algorithm: String,
@@ -200,7 +200,7 @@ pub struct ExportArgs {
 }
 
 /// What `states` does with lines of states.
-#[derive(Clone, Copy, Debug, PartialEq, Eq)]
+#[derive(Clone, Copy, Debug)]
 pub enum StatesTool {
     /// Writes the line of the first state.
     First,
@@ -215,7 +215,7 @@ pub enum StatesTool {
 }
 
 /// What is read, and the form of its lines.
-#[derive(Debug, Drop, PartialEq, Eq)]
+#[derive(Debug, Drop)]
 pub struct StreamArgs {
     pub tool: StatesTool,
     /// The most words of a key; 0: as many as the first key has, 24 more, and 8 more for each process.
@@ -231,7 +231,7 @@ pub struct StreamArgs {
 }
 
 /// `states`: the states of a search as lines of a text.
-#[derive(Debug, Drop, PartialEq, Eq)]
+#[derive(Debug, Drop)]
 pub struct StatesArgs {
     /// The search whose states they are.
     pub search: ExploreArgs,
@@ -239,7 +239,7 @@ pub struct StatesArgs {
 }
 
 /// `states --algorithm`: the states of an algorithm's search as lines of a text.
-#[derive(Debug, Drop, PartialEq, Eq)]
+#[derive(Debug, Drop)]
 pub struct AlgorithmStatesArgs {
     /// The search whose states they are.
     pub search: AlgorithmExploreArgs,
@@ -247,7 +247,7 @@ pub struct AlgorithmStatesArgs {
 }
 
 /// `judge`: judges a trace of deeds.
-#[derive(Debug, Drop, PartialEq, Eq)]
+#[derive(Debug, Drop)]
 pub struct JudgeArgs {
     /// Print the verdict as a JSON object.
     pub json: bool,
@@ -256,7 +256,7 @@ pub struct JudgeArgs {
 }
 
 /// `draw`: runs a schedule and draws its run.
-#[derive(Debug, Drop, PartialEq, Eq)]
+#[derive(Debug, Drop)]
 pub struct DrawArgs {
     /// Write a page that shows the run step by step.
     pub html: bool,
@@ -270,7 +270,7 @@ pub struct DrawArgs {
 }
 
 /// `draw --algorithm`: runs a schedule on an algorithm, and draws its run.
-#[derive(Debug, Drop, PartialEq, Eq)]
+#[derive(Debug, Drop)]
 pub struct AlgorithmDrawArgs {
     /// The file of the algorithm's text.
     pub algorithm: String,
@@ -283,7 +283,7 @@ pub struct AlgorithmDrawArgs {
 }
 
 /// `shrink`: shrinks a schedule that goes wrong on a variant.
-#[derive(Debug, Drop, PartialEq, Eq)]
+#[derive(Debug, Drop)]
 pub struct ShrinkArgs {
     pub variant: Variant,
     /// The schedule's file; without one, standard input.
@@ -291,7 +291,7 @@ pub struct ShrinkArgs {
 }
 
 /// `shrink --algorithm`: shrinks a schedule that goes wrong on an algorithm.
-#[derive(Debug, Drop, PartialEq, Eq)]
+#[derive(Debug, Drop)]
 pub struct AlgorithmShrinkArgs {
     /// The file of the algorithm's text.
     pub algorithm: String,
@@ -300,7 +300,7 @@ pub struct AlgorithmShrinkArgs {
 }
 
 /// `step --algorithm`: holds a session over a schedule on an algorithm.
-#[derive(Debug, Drop, PartialEq, Eq)]
+#[derive(Debug, Drop)]
 pub struct AlgorithmStepArgs {
     /// The file of the algorithm's text.
     pub algorithm: String,
@@ -309,7 +309,7 @@ pub struct AlgorithmStepArgs {
 }
 
 /// A command with its arguments.
-#[derive(Debug, Drop, PartialEq, Eq)]
+#[derive(Debug, Drop)]
 pub enum Command {
     Replay(ReplayArgs),
     ReplayAlgorithm(AlgorithmReplayArgs),

@@ -226,6 +226,7 @@ pub(crate) fn algorithm_search(
     }
     let calls = algorithm_calls_of(alloc, matches)?;
     let stuck = stuck_of(matches)?;
+    let starving = starving_of(matches)?;
     let jobs = number_of(matches, "jobs");
     Ok(AlgorithmExploreArgs {
         algorithm: String::from_str(alloc, algorithm)?,
@@ -237,7 +238,7 @@ pub(crate) fn algorithm_search(
         states: number_or(matches, "states", 10_000_000),
         limit: number_or(matches, "limit", 4),
         stuck,
-        starving: starving_of(matches)?,
+        starving,
         jobs,
     })
 }

@@ -3,7 +3,7 @@
 ghost use Rattle.std.specs.Prelude.{map, IfOk};
 ghost use Rattle.cli.specs.CommandLine.{IsParser, app_of_shape, part, shape_of_part, with_subcommands, rule_of_argument, head, replay, run, hunt, explore, cost, export, states, judge, draw, shrink, step, explain, rmelab};
 
-use crate::arguments::argument::{Argument, ArgumentForm};
+use crate::arguments::argument::{self, Argument};
 use clap::Command as Parser;
 use std::alloc::{AllocError, Global};
 
@@ -113,6 +113,14 @@ of the restart table, its state, and who is inside. A line that is refused or ca
 changes nothing.\nExit status: 0 at the end of the session, 2 if it can't begin, 3 after a fault of a device or of \
 memory.\n\nExample: rmelab step examples/tie.rme";
 
+const EXPORT_HELP: &str =
+    "In: the algorithm's text: docs/use/algorithms.md.\nOut: a model in Promela of all its schedules whose moves are the start of \
+a call, one step, or a crash, of which there are at most --crashes. SPIN searches it, and finds an assertion violated where \
+the promises are broken, but for never lines and promises on calls under way: spin -a, then a C compiler with -DSAFETY \
+-DNOREDUCE. It stores as many states as explore counts, where the judge has nothing against it and no number is above \
+32767.\nExit status: 0, 2 after a fault of the words or the algorithm, 3 after one of a device or of memory.\n\nExample: \
+rmelab export --promela examples/algorithms/mcs.lock --procs 2";
+
 /// What `--version` prints.
 const VERSION: &str = "0.1.0";
 
@@ -138,22 +146,7 @@ fn replay<'a>(alloc: Global) -> Result<Parser<'a>, AllocError>
     ensures { IfOk result (IsParser (app_of_shape replay)) }
 {
     let about = "Runs a schedule of steps and crashes, and prints its report";
-    let arguments = [
-        Argument::flag(
-            "json",
-            "Print one JSON object of the report's lines; with --each an object for each step",
-        ),
-        Argument::flag(
-            "each",
-            "Print each step, with its word and the state of its process",
-        ),
-        Argument::variant(),
-        Argument::algorithm(),
-        Argument::image(),
-        Argument::text("save", "FILE", "Write the last image to this file"),
-        Argument::file("The schedule; without it, standard input is read"),
-    ];
-    command(alloc, "replay", about, REPLAY_HELP, &arguments)
+    command(alloc, "replay", about, REPLAY_HELP, &argument::REPLAY)
 }
 
 /// The parser of `run`, with its help.
@@ -161,14 +154,7 @@ fn run<'a>(alloc: Global) -> Result<Parser<'a>, AllocError>
     ensures { IfOk result (IsParser (app_of_shape run)) }
 {
     let about = "Runs senders on threads, with drawn crashes, and counts their messages";
-    let arguments = [
-        Argument::number("procs", "N", "1 to 16 senders").as_required(),
-        Argument::number("messages", "M", "1 to 4096 messages of each").as_required(),
-        Argument::number("crash", "C", "0 to 50 crashes in 1000 askings").as_required(),
-        Argument::number("seed", "S", "The seed of the crashes").as_required(),
-        Argument::number("width", "W", "1 to 8 words a message; 1 without it"),
-    ];
-    command(alloc, "run", about, RUN_HELP, &arguments)
+    command(alloc, "run", about, RUN_HELP, &argument::RUN)
 }
 
 /// The parser of `hunt`, with its help.
@@ -176,35 +162,7 @@ fn hunt<'a>(alloc: Global) -> Result<Parser<'a>, AllocError>
     ensures { IfOk result (IsParser (app_of_shape hunt)) }
 {
     let about = "Draws schedules until a variant of the lock, or an algorithm, goes wrong";
-    let arguments = [
-        Argument::variant(),
-        Argument::algorithm(),
-        Argument::number(
-            "procs",
-            "N",
-            "1 to 64 processes; 2 without it; with --algorithm alone",
-        ),
-        Argument::number(
-            "limit",
-            "L",
-            "Numbers up to L; 1000000 without it; with --algorithm alone",
-        ),
-        Argument::number("seed", "S", "The seed of the moves").as_required(),
-        Argument::number(
-            "first-round",
-            "A",
-            "Begin with round A, by one thread; 0 without it",
-        ),
-        Argument::number("rounds", "R", "1 to 10000 rounds").as_required(),
-        Argument::number("steps", "K", "1 to 10000 moves a round").as_required(),
-        Argument::flag("shrink", "Minimize the schedule found, as `shrink` does"),
-        Argument::number(
-            "jobs",
-            "N",
-            "N threads at once; without it, or 0, as many as there are processors",
-        ),
-    ];
-    command(alloc, "hunt", about, HUNT_HELP, &arguments)
+    command(alloc, "hunt", about, HUNT_HELP, &argument::HUNT)
 }
 
 /// The parser of `explore`, with its help.
@@ -212,45 +170,7 @@ fn explore<'a>(alloc: Global) -> Result<Parser<'a>, AllocError>
     ensures { IfOk result (IsParser (app_of_shape explore)) }
 {
     let about = "Tries all schedules up to a bound, for the shortest that goes wrong";
-    let calls =
-        "lock, unlock, recover, withdraw, and of a variant consistent, append and close, with commas; without it lock,unlock, with --stuck consistent too, and of an algorithm the calls of its text";
-    let arguments = [
-        Argument::variant(),
-        Argument::algorithm(),
-        Argument::number("procs", "N", "1 to 64 processes").as_required(),
-        Argument::text("calls", "LIST", calls),
-        Argument::number("crashes", "C", "At most C crashes; 0 without it"),
-        Argument::number(
-            "system-crashes",
-            "G",
-            "At most G crashes of all processes at once; 0 without it; not with --variant",
-        ),
-        Argument::number("moves", "K", "At most K moves; no bound without it"),
-        Argument::number("states", "S", "At most S states; 10000000 without it"),
-        Argument::number("limit", "L", "Numbers up to L; 4 without it"),
-        Argument::number(
-            "cap",
-            "M",
-            "Room for M messages; 1 without it; not with --algorithm",
-        ),
-        Argument::number(
-            "width",
-            "W",
-            "1 to 8 words a message; 1 without it; not with --algorithm",
-        ),
-        Argument::flag("stuck", "Look for stuck states too; not with --moves"),
-        Argument::starving(),
-        Argument::flag(
-            "all-variables",
-            "Distinguish states by dead variables too; not with --algorithm",
-        ),
-        Argument::number(
-            "jobs",
-            "N",
-            "N threads at once; without it, or 0, as many as there are processors",
-        ),
-    ];
-    command(alloc, "explore", about, EXPLORE_HELP, &arguments)
+    command(alloc, "explore", about, EXPLORE_HELP, &argument::EXPLORE)
 }
 
 /// The parser of `cost`, with its help.
@@ -258,55 +178,15 @@ fn cost<'a>(alloc: Global) -> Result<Parser<'a>, AllocError>
     ensures { IfOk result (IsParser (app_of_shape cost)) }
 {
     let about = "Counts the remote references of a passage of an algorithm: the most, or the mean";
-    let calls = "The calls that are started, as for `explore`";
-    let arguments = [
-        Argument::algorithm().as_required(),
-        Argument::text("model", "M", "dsm, write-through or write-back").as_required(),
-        Argument::flag(
-            "super-passages",
-            "Count in super-passages, which a crash does not end",
-        ),
-        Argument::number("procs", "N", "1 to 64 processes").as_required(),
-        Argument::text("calls", "LIST", calls),
-        Argument::number("crashes", "C", "At most C crashes; 0 without it"),
-        Argument::number(
-            "system-crashes",
-            "G",
-            "At most G crashes of all processes at once; 0 without it",
-        ),
-        Argument::number("states", "S", "At most S states; 10000000 without it"),
-        Argument::number("limit", "L", "Numbers up to L; 4 without it"),
-        Argument::flag(
-            "mean",
-            "Count on random schedules: --seed, --rounds and --steps go with it alone, and --limit is 1000000 without it; not with --super-passages, --calls, --crashes, --system-crashes or --states",
-        ),
-        Argument::number("seed", "S", "The seed of the moves; 0 without it"),
-        Argument::number("rounds", "R", "1 to 10000 rounds; 100 without it"),
-        Argument::number("steps", "K", "1 to 10000 moves a round; 1000 without it"),
-    ];
-    command(alloc, "cost", about, COST_HELP, &arguments)
+    command(alloc, "cost", about, COST_HELP, &argument::COST)
 }
-
-const EXPORT_HELP: &str =
-    "In: the algorithm's text: docs/use/algorithms.md.\nOut: a model in Promela of all its schedules whose moves are the start of \
-a call, one step, or a crash, of which there are at most --crashes. SPIN searches it, and finds an assertion violated where \
-the promises are broken, but for never lines and promises on calls under way: spin -a, then a C compiler with -DSAFETY \
--DNOREDUCE. It stores as many states as explore counts, where the judge has nothing against it and no number is above \
-32767.\nExit status: 0, 2 after a fault of the words or the algorithm, 3 after one of a device or of memory.\n\nExample: \
-rmelab export --promela examples/algorithms/mcs.lock --procs 2";
 
 /// The parser of `export`, with its help.
 fn export<'a>(alloc: Global) -> Result<Parser<'a>, AllocError>
     ensures { IfOk result (IsParser (app_of_shape export)) }
 {
     let about = "Writes the model of an algorithm for another tool";
-    let arguments = [
-        Argument::text("promela", "FILE", "The algorithm whose model is written").as_required(),
-        Argument::number("procs", "N", "1 to 64 processes").as_required(),
-        Argument::number("crashes", "C", "At most C crashes; 0 without it"),
-        Argument::number("limit", "L", "Numbers up to L; 4 without it"),
-    ];
-    command(alloc, "export", about, EXPORT_HELP, &arguments)
+    command(alloc, "export", about, EXPORT_HELP, &argument::EXPORT)
 }
 
 /// The parser of `states`, with its help.
@@ -314,40 +194,7 @@ fn states<'a>(alloc: Global) -> Result<Parser<'a>, AllocError>
     ensures { IfOk result (IsParser (app_of_shape states)) }
 {
     let about = "Writes and checks the states of a search as lines of a text";
-    let calls = "The calls that are started, as for `explore`";
-    let arguments = [
-        Argument::tool().as_required(),
-        Argument::variant(),
-        Argument::algorithm(),
-        Argument::number("procs", "N", "1 to 64 processes").as_required(),
-        Argument::text("calls", "LIST", calls),
-        Argument::number("crashes", "C", "At most C crashes; 0 without it"),
-        Argument::number("limit", "L", "Numbers up to L; 4 without it"),
-        Argument::number(
-            "cap",
-            "M",
-            "Room for M messages; 1 without it; not with --algorithm",
-        ),
-        Argument::number(
-            "width",
-            "W",
-            "1 to 8 words a message; 1 without it; not with --algorithm",
-        ),
-        Argument::number(
-            "words",
-            "K",
-            "Room for K words a state; without it, or 0, 24 more than the first has, and 8 a process",
-        ),
-        Argument::number("digits", "D", "1 to 10 characters a word; 2 without it"),
-        Argument::number(
-            "part",
-            "I",
-            "Check moves into part I of all states; 0 without it",
-        ),
-        Argument::number("parts", "P", "of P parts; 1 without it"),
-        Argument::file("The states; without it, standard input is read"),
-    ];
-    command(alloc, "states", about, STATES_HELP, &arguments)
+    command(alloc, "states", about, STATES_HELP, &argument::STATES)
 }
 
 /// The parser of `judge`, with its help.
@@ -355,11 +202,7 @@ fn judge<'a>(alloc: Global) -> Result<Parser<'a>, AllocError>
     ensures { IfOk result (IsParser (app_of_shape judge)) }
 {
     let about = "Judges a trace of deeds, and prints the verdict";
-    let arguments = [
-        Argument::flag("json", "Print the verdict as a JSON object"),
-        Argument::file("The trace; without it, standard input is read"),
-    ];
-    command(alloc, "judge", about, JUDGE_HELP, &arguments)
+    command(alloc, "judge", about, JUDGE_HELP, &argument::JUDGE)
 }
 
 /// The parser of `draw`, with its help.
@@ -367,15 +210,7 @@ fn draw<'a>(alloc: Global) -> Result<Parser<'a>, AllocError>
     ensures { IfOk result (IsParser (app_of_shape draw)) }
 {
     let about = "Draws the run of a schedule as a space-time diagram";
-    let arguments = [
-        Argument::variant(),
-        Argument::algorithm(),
-        Argument::image(),
-        Argument::flag("svg", "Write a picture, as SVG"),
-        Argument::flag("html", "Write a page that shows the run step by step"),
-        Argument::file("The schedule; without it, standard input is read"),
-    ];
-    command(alloc, "draw", about, DRAW_HELP, &arguments)
+    command(alloc, "draw", about, DRAW_HELP, &argument::DRAW)
 }
 
 /// The parser of `shrink`, with its help.
@@ -383,12 +218,7 @@ fn shrink<'a>(alloc: Global) -> Result<Parser<'a>, AllocError>
     ensures { IfOk result (IsParser (app_of_shape shrink)) }
 {
     let about = "Minimizes a schedule that goes wrong on a variant of the lock, or on an algorithm";
-    let arguments = [
-        Argument::variant(),
-        Argument::algorithm(),
-        Argument::file("The schedule; without it, standard input is read"),
-    ];
-    command(alloc, "shrink", about, SHRINK_HELP, &arguments)
+    command(alloc, "shrink", about, SHRINK_HELP, &argument::SHRINK)
 }
 
 /// The parser of `step`, with its help.
@@ -396,11 +226,7 @@ fn step<'a>(alloc: Global) -> Result<Parser<'a>, AllocError>
     ensures { IfOk result (IsParser (app_of_shape step)) }
 {
     let about = "Holds a session: takes the lines of a schedule one by one, and goes back";
-    let arguments = [
-        Argument::algorithm(),
-        Argument::file("The schedule to begin with; without it, the first line is a header"),
-    ];
-    command(alloc, "step", about, STEP_HELP, &arguments)
+    command(alloc, "step", about, STEP_HELP, &argument::STEP)
 }
 
 /// The parser of `explain`, with its help.
@@ -408,10 +234,7 @@ fn explain<'a>(alloc: Global) -> Result<Parser<'a>, AllocError>
     ensures { IfOk result (IsParser (app_of_shape explain)) }
 {
     let about = "Says what a number or a word of reports and faults means";
-    let names =
-        "The name, as `fault 5`, `refused 12`, `rule 7`, `against 4`, `answer clean` or `step look`";
-    let arguments = [Argument::new(ArgumentForm::Words, "WORDS", "", names)];
-    command(alloc, "explain", about, EXPLAIN_HELP, &arguments)
+    command(alloc, "explain", about, EXPLAIN_HELP, &argument::EXPLAIN)
 }
 
 /// The parser of the program without its commands: what it is, its version and its exit statuses.

@@ -26,37 +26,57 @@ use clap::error::ErrorKind;
 use clap::{ArgMatches, Error};
 use crashlab::Variant;
 use std::alloc::{AllocError, Global};
-use std::io;
 use std::rt::Env;
-use thiserror::Error;
+use std::{fmt, io};
 
 /// Why the words are no command. The first cause that is found is answered.
-#[derive(Debug, Drop, Error)]
+#[derive(Drop)]
 pub enum WordsFault {
     /// The help or the version that was asked for. It is printed; the exit status is 0.
-    #[error("{text}")]
     Help { text: String },
     /// The error text of `clap`, that the words name no entry, that an option is beside `--algorithm` which the command does not
     /// have there, that `explore`, `states`, `hunt` or `shrink` has neither a variant nor an algorithm, that `cost` or `export` has no
     /// algorithm, or that an option of `cost` does not go with `--mean`, or only with it. It is printed to standard error; the exit
     /// status is 2.
-    #[error("{text}")]
     Refused { text: String },
     /// There is no such variant, it isn't `right` and an image is given, or an algorithm is given beside a variant, an image or a
     /// file for the last image; the exit status is 2.
-    #[error("bad variant")]
     BadVariant,
     /// A number of `run`, `hunt` or `cost` is outside its range, `--procs` or `--limit` of `hunt` is beside a variant, a call of
     /// `explore`, `cost` or `states` is none, or none of an algorithm, `--stuck` is beside `--moves`, `states` has no such tool,
     /// or `cost` no such model; the exit status is 2.
-    #[error("bad size")]
     BadSize,
     /// A word isn't UTF-8 text.
-    #[error("a word is no text")]
     Unreadable,
-    #[error("out of memory")]
     OutOfMemory,
 }
+
+impl WordsFault {
+    /// What it says to a reader.
+    fn text(&self) -> &str {
+        match self {
+            WordsFault::Help { text } | WordsFault::Refused { text } => text.as_str(),
+            WordsFault::BadVariant => "bad variant",
+            WordsFault::BadSize => "bad size",
+            WordsFault::Unreadable => "a word is no text",
+            WordsFault::OutOfMemory => "out of memory",
+        }
+    }
+}
+
+impl fmt::Display for WordsFault {
+    fn fmt<W: fmt::Write>(&self, f: &mut fmt::Formatter<W>) -> fmt::Result {
+        f.write_str(self.text())
+    }
+}
+
+impl fmt::Debug for WordsFault {
+    fn fmt<W: fmt::Write>(&self, f: &mut fmt::Formatter<W>) -> fmt::Result {
+        f.write_str(self.text())
+    }
+}
+
+impl std::error::Error for WordsFault {}
 
 impl From<AllocError> for WordsFault {
     ghost use Rattle.cli.specs.declared.arguments.words.WordsFault.TheVariants.{OutOfMemory};

@@ -6,9 +6,8 @@ ghost use Rattle.cli.specs.Names.{name_of};
 
 use crate::explain::algorithm_refused::AlgorithmRefused;
 use crate::explain::meaning::Meaning;
-use crate::explain::refusals::of_refusal;
+use crate::explain::refusals::OUT_OF_MEMORY;
 use algorithms::ReadFault;
-use rmecore::Refusal;
 
 const NO_HEADER: &str =
     "The text is empty, its first line is no header, or its second line has no promises. It begins with `algorithm \
@@ -89,64 +88,71 @@ const MALFORMED: &str =
     "The algorithm is wrong at a line: there is no such line, or local lines repeat for ever. No text that was read \
 has this fault.";
 
-/// An entry for a fault of an algorithm's text.
-fn of_text(name: &'static str, text: &'static str) -> Meaning
-    ensures { result.name.now ≡ name.now }
+/// The name of a fault of an algorithm's text, and its sentences. Out of memory has those of the refusal.
+#[tactic(auto, unfolding(crate::proofs::ExplainCommon::digits))]
+fn entry_of(fault: ReadFault) -> (&'static str, &'static str)
+    ensures { result.0.now ≡ name_of (OfAlgorithm fault) }
 {
-    Meaning {
-        name,
-        text,
-        page: "docs/use/algorithms.md, Faults of a text",
+    match fault {
+        ReadFault::NoHeader => ("algorithm fault 1", NO_HEADER),
+        ReadFault::BadCharacter => ("algorithm fault 2", BAD_CHARACTER),
+        ReadFault::NoNewline => ("algorithm fault 3", NO_NEWLINE),
+        ReadFault::BadForm => ("algorithm fault 4", BAD_FORM),
+        ReadFault::NameTaken => ("algorithm fault 5", NAME_TAKEN),
+        ReadFault::UnknownName => ("algorithm fault 6", UNKNOWN_NAME),
+        ReadFault::TwoAccesses => ("algorithm fault 7", TWO_ACCESSES),
+        ReadFault::NotAssignable => ("algorithm fault 8", NOT_ASSIGNABLE),
+        ReadFault::BadBlock => ("algorithm fault 9", BAD_BLOCK),
+        ReadFault::BadLabel => ("algorithm fault 10", BAD_LABEL),
+        ReadFault::Unset => ("algorithm fault 11", UNSET),
+        ReadFault::Endless => ("algorithm fault 12", ENDLESS),
+        ReadFault::NoStep => ("algorithm fault 13", NO_STEP),
+        ReadFault::FallsOff => ("algorithm fault 14", FALLS_OFF),
+        ReadFault::BadDeed => ("algorithm fault 15", BAD_DEED),
+        ReadFault::TooBig => ("algorithm fault 16", TOO_BIG),
+        ReadFault::BadCall => ("algorithm fault 17", BAD_CALL),
+        ReadFault::NeverReached => ("algorithm fault 18", NEVER_REACHED),
+        ReadFault::OutOfMemory => ("out of memory", OUT_OF_MEMORY),
     }
 }
 
-/// An entry for a refusal in the run of an algorithm.
-fn of_run(name: &'static str, text: &'static str) -> Meaning
-    ensures { result.name.now ≡ name.now }
-{
-    Meaning {
-        name,
-        text,
-        page: "docs/use/algorithms.md, Meaning",
+/// The page that defines such a fault, and the part of it.
+fn page_of(fault: ReadFault) -> &'static str {
+    match fault {
+        ReadFault::OutOfMemory => "docs/dev/surface.md, Rules for all calls",
+        _ => "docs/use/algorithms.md, Faults of a text",
     }
 }
 
 /// The meaning of a fault of an algorithm's text.
-#[tactic(auto, unfolding(crate::proofs::ExplainCommon::digits))]
 pub fn of_algorithm_fault(fault: ReadFault) -> Meaning
     ensures { result.name.now ≡ name_of (OfAlgorithm fault) }
 {
-    match fault {
-        ReadFault::NoHeader => of_text("algorithm fault 1", NO_HEADER),
-        ReadFault::BadCharacter => of_text("algorithm fault 2", BAD_CHARACTER),
-        ReadFault::NoNewline => of_text("algorithm fault 3", NO_NEWLINE),
-        ReadFault::BadForm => of_text("algorithm fault 4", BAD_FORM),
-        ReadFault::NameTaken => of_text("algorithm fault 5", NAME_TAKEN),
-        ReadFault::UnknownName => of_text("algorithm fault 6", UNKNOWN_NAME),
-        ReadFault::TwoAccesses => of_text("algorithm fault 7", TWO_ACCESSES),
-        ReadFault::NotAssignable => of_text("algorithm fault 8", NOT_ASSIGNABLE),
-        ReadFault::BadBlock => of_text("algorithm fault 9", BAD_BLOCK),
-        ReadFault::BadLabel => of_text("algorithm fault 10", BAD_LABEL),
-        ReadFault::Unset => of_text("algorithm fault 11", UNSET),
-        ReadFault::Endless => of_text("algorithm fault 12", ENDLESS),
-        ReadFault::NoStep => of_text("algorithm fault 13", NO_STEP),
-        ReadFault::FallsOff => of_text("algorithm fault 14", FALLS_OFF),
-        ReadFault::BadDeed => of_text("algorithm fault 15", BAD_DEED),
-        ReadFault::TooBig => of_text("algorithm fault 16", TOO_BIG),
-        ReadFault::BadCall => of_text("algorithm fault 17", BAD_CALL),
-        ReadFault::NeverReached => of_text("algorithm fault 18", NEVER_REACHED),
-        ReadFault::OutOfMemory => of_refusal(Refusal::OutOfMemory),
+    let (name, text) = entry_of(fault);
+    let page = page_of(fault);
+    Meaning { name, text, page }
+}
+
+/// The name of what a run of an algorithm's text refuses, and its sentences.
+#[tactic(auto, unfolding(crate::proofs::ExplainCommon::digits))]
+fn entry_of_refused(refused: AlgorithmRefused) -> (&'static str, &'static str)
+    ensures { result.0.now ≡ name_of (OfRefused refused) }
+{
+    match refused {
+        AlgorithmRefused::OutOfRange => ("refused 16", OUT_OF_RANGE),
+        AlgorithmRefused::NoSuchCall => ("refused 17", NO_SUCH_CALL),
+        AlgorithmRefused::Malformed => ("refused 18", MALFORMED),
     }
 }
 
 /// The meaning of what a run of an algorithm's text refuses.
-#[tactic(auto, unfolding(crate::proofs::ExplainCommon::digits))]
 pub fn of_algorithm_refused(refused: AlgorithmRefused) -> Meaning
     ensures { result.name.now ≡ name_of (OfRefused refused) }
 {
-    match refused {
-        AlgorithmRefused::OutOfRange => of_run("refused 16", OUT_OF_RANGE),
-        AlgorithmRefused::NoSuchCall => of_run("refused 17", NO_SUCH_CALL),
-        AlgorithmRefused::Malformed => of_run("refused 18", MALFORMED),
+    let (name, text) = entry_of_refused(refused);
+    Meaning {
+        name,
+        text,
+        page: "docs/use/algorithms.md, Meaning",
     }
 }

@@ -85,36 +85,82 @@ const NOT_RUINED: &str =
     "The task Check read that the lock is not ruined. Only programs get this answer: in a report the lock answers \
 `clean` or `owner-died`.";
 
-/// An entry for an answer of the lock's calls.
-fn of_lock(name: &'static str, text: &'static str) -> Meaning
-    ensures { result.name.now ≡ name.now }
+/// The name of a call's answer, and its sentences.
+fn entry_of(answer: Answer) -> (&'static str, &'static str)
+    ensures { result.0.now ≡ name_of (OfAnswer answer) }
 {
-    Meaning {
-        name,
-        text,
-        page: "docs/theory/model.md, Calls as rows of steps",
+    match answer {
+        Answer::Clean => ("answer clean", CLEAN),
+        Answer::OwnerDied => ("answer owner-died", OWNER_DIED),
+        Answer::NumbersSpent => ("answer numbers-spent", NUMBERS_SPENT),
+        Answer::NotRecoverable => ("answer not-recoverable", NOT_RECOVERABLE),
+        Answer::Unlocked => ("answer unlocked", UNLOCKED),
+        Answer::Withdrawn => ("answer withdrawn", WITHDRAWN),
+        Answer::Found(found) => entry_of_found(found),
+        Answer::Mail(reply) => entry_of_reply(reply),
     }
 }
 
-/// An entry for an answer of a recovery.
-fn of_restart(name: &'static str, text: &'static str) -> Meaning
-    ensures { result.name.now ≡ name.now }
+/// The name of what `recover` finds, and its sentences.
+fn entry_of_found(found: Found) -> (&'static str, &'static str)
+    ensures { result.0.now ≡ name_of_found found }
 {
-    Meaning {
-        name,
-        text,
-        page: "docs/theory/model.md, Restart table",
+    match found {
+        Found::Idle => ("answer found idle", IDLE),
+        Found::Left => ("answer found left", LEFT),
+        Found::Doorway => ("answer found doorway", DOORWAY),
+        Found::Waiting => ("answer found waiting", WAITING),
+        Found::Inside => ("answer found inside", INSIDE),
     }
 }
 
-/// An entry for an answer of a task on the mailbox or its board.
-fn of_task(name: &'static str, text: &'static str) -> Meaning
-    ensures { result.name.now ≡ name.now }
+/// The name of a task's reply, and its sentences.
+fn entry_of_reply(reply: Reply) -> (&'static str, &'static str)
+    ensures { result.0.now ≡ name_of_reply reply }
 {
-    Meaning {
-        name,
-        text,
-        page: "docs/theory/mailbox.md, Tasks",
+    match reply {
+        Reply::Stored => ("answer stored", STORED),
+        Reply::Already => ("answer already", ALREADY),
+        Reply::OutOfOrder => ("answer out-of-order", OUT_OF_ORDER),
+        Reply::Full => ("answer full", FULL),
+        Reply::Closed => ("answer closed", CLOSED),
+        Reply::ClosedNow => ("answer closed-now", CLOSED_NOW),
+        Reply::AlreadyClosed => ("answer already-closed", ALREADY_CLOSED),
+        Reply::Mended(mended) => entry_of_mending(mended),
+        Reply::Word(_) => ("answer word", WORD),
+        Reply::Done => ("answer put", DONE),
+        Reply::Ruined(ruined) => entry_of_check(ruined),
+    }
+}
+
+/// The name of what `consistent` has mended, and its sentences.
+fn entry_of_mending(mended: bool) -> (&'static str, &'static str)
+    ensures { result.0.now ≡ name_of_reply (Reply.Mended mended) }
+{
+    if mended {
+        ("answer mended", MENDED)
+    } else {
+        ("answer nothing-to-mend", NOTHING_TO_MEND)
+    }
+}
+
+/// The name of whether the lock is ruined, and its sentences.
+fn entry_of_check(ruined: bool) -> (&'static str, &'static str)
+    ensures { result.0.now ≡ name_of_reply (Reply.Ruined ruined) }
+{
+    if ruined {
+        ("answer ruined", RUINED)
+    } else {
+        ("answer not-ruined", NOT_RUINED)
+    }
+}
+
+/// The page that defines a call's answer, and the part of it.
+fn page_of(answer: Answer) -> &'static str {
+    match answer {
+        Answer::Found(_) => "docs/theory/model.md, Restart table",
+        Answer::Mail(_) => "docs/theory/mailbox.md, Tasks",
+        _ => "docs/theory/model.md, Calls as rows of steps",
     }
 }
 
@@ -122,68 +168,7 @@ fn of_task(name: &'static str, text: &'static str) -> Meaning
 pub fn of_answer(answer: Answer) -> Meaning
     ensures { result.name.now ≡ name_of (OfAnswer answer) }
 {
-    match answer {
-        Answer::Clean => of_lock("answer clean", CLEAN),
-        Answer::OwnerDied => of_lock("answer owner-died", OWNER_DIED),
-        Answer::NumbersSpent => of_lock("answer numbers-spent", NUMBERS_SPENT),
-        Answer::NotRecoverable => of_lock("answer not-recoverable", NOT_RECOVERABLE),
-        Answer::Unlocked => of_lock("answer unlocked", UNLOCKED),
-        Answer::Withdrawn => of_lock("answer withdrawn", WITHDRAWN),
-        Answer::Found(found) => of_found(found),
-        Answer::Mail(reply) => of_reply(reply),
-    }
-}
-
-/// The meaning of what `recover` finds.
-fn of_found(found: Found) -> Meaning
-    ensures { result.name.now ≡ name_of_found found }
-{
-    match found {
-        Found::Idle => of_restart("answer found idle", IDLE),
-        Found::Left => of_restart("answer found left", LEFT),
-        Found::Doorway => of_restart("answer found doorway", DOORWAY),
-        Found::Waiting => of_restart("answer found waiting", WAITING),
-        Found::Inside => of_restart("answer found inside", INSIDE),
-    }
-}
-
-/// The meaning of a task's reply.
-fn of_reply(reply: Reply) -> Meaning
-    ensures { result.name.now ≡ name_of_reply reply }
-{
-    match reply {
-        Reply::Stored => of_task("answer stored", STORED),
-        Reply::Already => of_task("answer already", ALREADY),
-        Reply::OutOfOrder => of_task("answer out-of-order", OUT_OF_ORDER),
-        Reply::Full => of_task("answer full", FULL),
-        Reply::Closed => of_task("answer closed", CLOSED),
-        Reply::ClosedNow => of_task("answer closed-now", CLOSED_NOW),
-        Reply::AlreadyClosed => of_task("answer already-closed", ALREADY_CLOSED),
-        Reply::Mended(mended) => of_mending(mended),
-        Reply::Word(_) => of_task("answer word", WORD),
-        Reply::Done => of_task("answer put", DONE),
-        Reply::Ruined(ruined) => of_check(ruined),
-    }
-}
-
-/// The meaning of what `consistent` has mended.
-fn of_mending(mended: bool) -> Meaning
-    ensures { result.name.now ≡ name_of_reply (Reply.Mended mended) }
-{
-    if mended {
-        of_task("answer mended", MENDED)
-    } else {
-        of_task("answer nothing-to-mend", NOTHING_TO_MEND)
-    }
-}
-
-/// The meaning of whether the lock is ruined.
-fn of_check(ruined: bool) -> Meaning
-    ensures { result.name.now ≡ name_of_reply (Reply.Ruined ruined) }
-{
-    if ruined {
-        of_task("answer ruined", RUINED)
-    } else {
-        of_task("answer not-ruined", NOT_RUINED)
-    }
+    let (name, text) = entry_of(answer);
+    let page = page_of(answer);
+    Meaning { name, text, page }
 }

@@ -11,9 +11,10 @@ use redomail::Reply;
 use rmecore::{Fault, Found, Kind, Refusal};
 use rmeworld::Answer;
 use schedule::LineFault;
+use std::fmt;
 
 /// An entry that can be explained. A number or a process beside it isn't part of its name.
-#[derive(Clone, Copy, Debug, PartialEq, Eq)]
+#[derive(Clone, Copy)]
 pub enum DictionaryEntry {
     /// A fault of a line of a text.
     Fault(LineFault),
@@ -31,6 +32,13 @@ pub enum DictionaryEntry {
     Step(Kind),
     /// A fault of an algorithm's text.
     AlgorithmFault(AlgorithmLineFault),
+}
+
+/// Its name.
+impl fmt::Debug for DictionaryEntry {
+    fn fmt<W: fmt::Write>(&self, f: &mut fmt::Formatter<W>) -> fmt::Result {
+        f.write_str(meaning_of(*self).name)
+    }
 }
 
 /// All entries that can be explained: one for each name.

@@ -11,7 +11,7 @@ use crate::explain::steps::of_kind;
 use crate::explain::texts::{of_judge_fault, of_line_fault, of_rule};
 
 /// The meaning of an entry, for a reader who has met its name.
-#[derive(Clone, Copy, Debug, PartialEq, Eq)]
+#[derive(Clone, Copy)]
 pub struct Meaning {
     /// The entry's name.
     pub name: &'static str,

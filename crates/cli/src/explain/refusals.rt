@@ -56,42 +56,43 @@ doorway and inside there is nothing to give up.";
 const BAD_WIDTH: &str =
     "The number of words is not allowed here. A message has 1 to 8, and all messages of a world have the same number.";
 
-const OUT_OF_MEMORY: &str =
+pub(crate) const OUT_OF_MEMORY: &str =
     "A request for memory was refused. This is the answer only if there is no other cause, and the call may be made \
 again.";
 
-/// An entry for the refusal of a call.
-fn of_call(name: &'static str, text: &'static str) -> Meaning
-    ensures { result.name.now ≡ name.now }
+/// The name of a refusal, and its sentences.
+#[tactic(auto, unfolding(crate::proofs::ExplainCommon::digits))]
+fn entry_of(refusal: Refusal) -> (&'static str, &'static str)
+    ensures { result.0.now ≡ name_of (OfRefused refusal) }
 {
-    Meaning {
-        name,
-        text,
-        page: "docs/dev/surface.md, Rules for all calls",
+    match refusal {
+        Refusal::BadProcs => ("refused 1", BAD_PROCS),
+        Refusal::BadLimit => ("refused 2", BAD_LIMIT),
+        Refusal::NoSuchProcess => ("refused 3", NO_SUCH_PROCESS),
+        Refusal::CallUnderWay => ("refused 4", CALL_UNDER_WAY),
+        Refusal::NotOwner => ("refused 5", NOT_OWNER),
+        Refusal::AlreadyIn => ("refused 6", ALREADY_IN),
+        Refusal::NothingToDo => ("refused 7", NOTHING_TO_DO),
+        Refusal::BadCap => ("refused 8", BAD_CAP),
+        Refusal::BadImage { .. } => ("refused 9", BAD_IMAGE),
+        Refusal::NotInconsistent => ("refused 10", NOT_INCONSISTENT),
+        Refusal::BadShape => ("refused 11", BAD_SHAPE),
+        Refusal::Unmended => ("refused 12", UNMENDED),
+        Refusal::BadIndex => ("refused 13", BAD_INDEX),
+        Refusal::NotWaiting => ("refused 14", NOT_WAITING),
+        Refusal::BadWidth => ("refused 15", BAD_WIDTH),
+        Refusal::OutOfMemory => ("out of memory", OUT_OF_MEMORY),
     }
 }
 
 /// The meaning of a refusal.
-#[tactic(auto, unfolding(crate::proofs::ExplainCommon::digits))]
 pub fn of_refusal(refusal: Refusal) -> Meaning
     ensures { result.name.now ≡ name_of (OfRefused refusal) }
 {
-    match refusal {
-        Refusal::BadProcs => of_call("refused 1", BAD_PROCS),
-        Refusal::BadLimit => of_call("refused 2", BAD_LIMIT),
-        Refusal::NoSuchProcess => of_call("refused 3", NO_SUCH_PROCESS),
-        Refusal::CallUnderWay => of_call("refused 4", CALL_UNDER_WAY),
-        Refusal::NotOwner => of_call("refused 5", NOT_OWNER),
-        Refusal::AlreadyIn => of_call("refused 6", ALREADY_IN),
-        Refusal::NothingToDo => of_call("refused 7", NOTHING_TO_DO),
-        Refusal::BadCap => of_call("refused 8", BAD_CAP),
-        Refusal::BadImage { .. } => of_call("refused 9", BAD_IMAGE),
-        Refusal::NotInconsistent => of_call("refused 10", NOT_INCONSISTENT),
-        Refusal::BadShape => of_call("refused 11", BAD_SHAPE),
-        Refusal::Unmended => of_call("refused 12", UNMENDED),
-        Refusal::BadIndex => of_call("refused 13", BAD_INDEX),
-        Refusal::NotWaiting => of_call("refused 14", NOT_WAITING),
-        Refusal::BadWidth => of_call("refused 15", BAD_WIDTH),
-        Refusal::OutOfMemory => of_call("out of memory", OUT_OF_MEMORY),
+    let (name, text) = entry_of(refusal);
+    Meaning {
+        name,
+        text,
+        page: "docs/dev/surface.md, Rules for all calls",
     }
 }

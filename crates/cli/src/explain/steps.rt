@@ -46,14 +46,23 @@ const PUT: &str =
 const GLANCE: &str =
     "Loads one word, also outside the section. It changes no word and no state of its process.";
 
-/// An entry for a kind of step.
-fn of_step(name: &'static str, text: &'static str) -> Meaning
-    ensures { result.name.now ≡ name.now }
+/// The name of a kind of step, and its sentences.
+fn entry_of(kind: Kind) -> (&'static str, &'static str)
+    ensures { result.0.now ≡ name_of (OfStep kind) }
 {
-    Meaning {
-        name,
-        text,
-        page: "docs/theory/model.md, Step",
+    match kind {
+        Kind::Open => ("step open", OPEN),
+        Kind::Peek => ("step peek", PEEK),
+        Kind::Take => ("step take", TAKE),
+        Kind::Shut => ("step shut", SHUT),
+        Kind::Look => ("step look", LOOK),
+        Kind::Weigh => ("step weigh", WEIGH),
+        Kind::Mark => ("step mark", MARK),
+        Kind::Drop => ("step drop", DROP),
+        Kind::Reread => ("step reread", REREAD),
+        Kind::Get => ("step get", GET),
+        Kind::Put => ("step put", PUT),
+        Kind::Glance => ("step glance", GLANCE),
     }
 }
 
@@ -61,18 +70,10 @@ fn of_step(name: &'static str, text: &'static str) -> Meaning
 pub fn of_kind(kind: Kind) -> Meaning
     ensures { result.name.now ≡ name_of (OfStep kind) }
 {
-    match kind {
-        Kind::Open => of_step("step open", OPEN),
-        Kind::Peek => of_step("step peek", PEEK),
-        Kind::Take => of_step("step take", TAKE),
-        Kind::Shut => of_step("step shut", SHUT),
-        Kind::Look => of_step("step look", LOOK),
-        Kind::Weigh => of_step("step weigh", WEIGH),
-        Kind::Mark => of_step("step mark", MARK),
-        Kind::Drop => of_step("step drop", DROP),
-        Kind::Reread => of_step("step reread", REREAD),
-        Kind::Get => of_step("step get", GET),
-        Kind::Put => of_step("step put", PUT),
-        Kind::Glance => of_step("step glance", GLANCE),
+    let (name, text) = entry_of(kind);
+    Meaning {
+        name,
+        text,
+        page: "docs/theory/model.md, Step",
     }
 }

@@ -109,10 +109,26 @@ const BROKEN_CLAIM: &str =
     "A condition holds that the text says never holds, by a line `never`. The line `breaks N` of the report has the number of that \
 line, and stands where the condition holds after a step or a crash, or held before it.";
 
-/// An entry for a fault of a schedule or a trace.
-fn of_text(name: &'static str, text: &'static str) -> Meaning
-    ensures { result.name.now ≡ name.now }
+/// The name of a fault of a line, and its sentences.
+#[tactic(auto, unfolding(crate::proofs::ExplainCommon::digits))]
+fn entry_of_line_fault(fault: LineFault) -> (&'static str, &'static str)
+    ensures { result.0.now ≡ name_of (OfFault fault) }
 {
+    match fault {
+        LineFault::NoHeader => ("fault 1", NO_HEADER),
+        LineFault::BadWord => ("fault 2", BAD_WORD),
+        LineFault::BadNumber => ("fault 3", BAD_NUMBER),
+        LineFault::TooBig => ("fault 4", TOO_BIG),
+        LineFault::NoNewline => ("fault 5", NO_NEWLINE),
+        LineFault::TrailingText => ("fault 6", TRAILING_TEXT),
+    }
+}
+
+/// The meaning of a fault of a line of a schedule or a trace.
+pub fn of_line_fault(fault: LineFault) -> Meaning
+    ensures { result.name.now ≡ name_of (OfFault fault) }
+{
+    let (name, text) = entry_of_line_fault(fault);
     Meaning {
         name,
         text,
@@ -120,10 +136,29 @@ fn of_text(name: &'static str, text: &'static str) -> Meaning
     }
 }
 
-/// An entry for a rule that an image has to keep.
-fn of_image(name: &'static str, text: &'static str) -> Meaning
-    ensures { result.name.now ≡ name.now }
+/// The name of a rule of an image, and its sentences.
+#[tactic(auto, unfolding(crate::proofs::ExplainCommon::digits))]
+fn entry_of_rule(rule: Rule) -> (&'static str, &'static str)
+    ensures { result.0.now ≡ name_of (OfRule rule) }
 {
+    match rule {
+        Rule::Form => ("rule 1", FORM),
+        Rule::Version => ("rule 2", VERSION),
+        Rule::Sizes => ("rule 3", SIZES),
+        Rule::Length => ("rule 4", LENGTH),
+        Rule::Rows => ("rule 5", ROWS),
+        Rule::Inside => ("rule 6", INSIDE),
+        Rule::Heads => ("rule 7", HEADS),
+        Rule::List => ("rule 8", LIST),
+        Rule::Record => ("rule 9", RECORD),
+    }
+}
+
+/// The meaning of a rule of an image.
+pub fn of_rule(rule: Rule) -> Meaning
+    ensures { result.name.now ≡ name_of (OfRule rule) }
+{
+    let (name, text) = entry_of_rule(rule);
     Meaning {
         name,
         text,
@@ -131,77 +166,40 @@ fn of_image(name: &'static str, text: &'static str) -> Meaning
     }
 }
 
-/// An entry for a fault of a deed before the judge.
-fn of_judge(name: &'static str, text: &'static str) -> Meaning
-    ensures { result.name.now ≡ name.now }
-{
-    Meaning {
-        name,
-        text,
-        page: "docs/theory/judge.md, The judge table",
-    }
-}
-
-/// An entry for a promise of an algorithm's text that a run breaks.
-fn of_promise(name: &'static str, text: &'static str) -> Meaning
-    ensures { result.name.now ≡ name.now }
-{
-    Meaning {
-        name,
-        text,
-        page: "docs/use/algorithms.md, Meaning",
-    }
-}
-
-/// The meaning of a fault of a line of a schedule or a trace.
+/// The name of the fault for which a verdict is against a run, and its sentences.
 #[tactic(auto, unfolding(crate::proofs::ExplainCommon::digits))]
-pub fn of_line_fault(fault: LineFault) -> Meaning
-    ensures { result.name.now ≡ name_of (OfFault fault) }
+fn entry_of_judge_fault(fault: Fault) -> (&'static str, &'static str)
+    ensures { result.0.now ≡ name_of (OfAgainst fault) }
 {
     match fault {
-        LineFault::NoHeader => of_text("fault 1", NO_HEADER),
-        LineFault::BadWord => of_text("fault 2", BAD_WORD),
-        LineFault::BadNumber => of_text("fault 3", BAD_NUMBER),
-        LineFault::TooBig => of_text("fault 4", TOO_BIG),
-        LineFault::NoNewline => of_text("fault 5", NO_NEWLINE),
-        LineFault::TrailingText => of_text("fault 6", TRAILING_TEXT),
+        Fault::OutOfPlace => ("against 1", OUT_OF_PLACE),
+        Fault::TwoInside => ("against 2", TWO_INSIDE),
+        Fault::NotReentered => ("against 3", NOT_REENTERED),
+        Fault::Overtaken { .. } => ("against 4", OVERTAKEN),
+        Fault::NotInside => ("against 5", NOT_INSIDE),
+        Fault::MailOrder => ("against 6", MAIL_ORDER),
+        Fault::AfterClose => ("against 7", AFTER_CLOSE),
+        Fault::LongExit => ("against 8", LONG_EXIT),
+        Fault::LongRecovery => ("against 9", LONG_RECOVERY),
+        Fault::LongDoorway => ("against 10", LONG_DOORWAY),
+        Fault::BrokenClaim => ("against 11", BROKEN_CLAIM),
     }
 }
 
-/// The meaning of a rule of an image.
-#[tactic(auto, unfolding(crate::proofs::ExplainCommon::digits))]
-pub fn of_rule(rule: Rule) -> Meaning
-    ensures { result.name.now ≡ name_of (OfRule rule) }
-{
-    match rule {
-        Rule::Form => of_image("rule 1", FORM),
-        Rule::Version => of_image("rule 2", VERSION),
-        Rule::Sizes => of_image("rule 3", SIZES),
-        Rule::Length => of_image("rule 4", LENGTH),
-        Rule::Rows => of_image("rule 5", ROWS),
-        Rule::Inside => of_image("rule 6", INSIDE),
-        Rule::Heads => of_image("rule 7", HEADS),
-        Rule::List => of_image("rule 8", LIST),
-        Rule::Record => of_image("rule 9", RECORD),
+/// The page that defines such a fault, and the part of it: a deed before the judge, or a promise of an algorithm's text.
+fn page_of(fault: Fault) -> &'static str {
+    match fault {
+        Fault::LongExit | Fault::LongRecovery => "docs/use/algorithms.md, Meaning",
+        Fault::LongDoorway | Fault::BrokenClaim => "docs/use/algorithms.md, Meaning",
+        _ => "docs/theory/judge.md, The judge table",
     }
 }
 
 /// The meaning of the fault for which a verdict is against a run.
-#[tactic(auto, unfolding(crate::proofs::ExplainCommon::digits))]
 pub fn of_judge_fault(fault: Fault) -> Meaning
     ensures { result.name.now ≡ name_of (OfAgainst fault) }
 {
-    match fault {
-        Fault::OutOfPlace => of_judge("against 1", OUT_OF_PLACE),
-        Fault::TwoInside => of_judge("against 2", TWO_INSIDE),
-        Fault::NotReentered => of_judge("against 3", NOT_REENTERED),
-        Fault::Overtaken { .. } => of_judge("against 4", OVERTAKEN),
-        Fault::NotInside => of_judge("against 5", NOT_INSIDE),
-        Fault::MailOrder => of_judge("against 6", MAIL_ORDER),
-        Fault::AfterClose => of_judge("against 7", AFTER_CLOSE),
-        Fault::LongExit => of_promise("against 8", LONG_EXIT),
-        Fault::LongRecovery => of_promise("against 9", LONG_RECOVERY),
-        Fault::LongDoorway => of_promise("against 10", LONG_DOORWAY),
-        Fault::BrokenClaim => of_promise("against 11", BROKEN_CLAIM),
-    }
+    let (name, text) = entry_of_judge_fault(fault);
+    let page = page_of(fault);
+    Meaning { name, text, page }
 }

@@ -14,7 +14,7 @@ use schedule::{Listener, OutOfMemory, Schedule};
 use std::alloc::{AllocError, Global};
 
 /// A step or a crash of a process, as its monitor says it.
-#[derive(Clone, Copy, Debug)]
+#[derive(Clone, Copy)]
 pub(crate) enum MonitorEvent {
     Took(u64, MonitorStep),
     Fell(u64, MonitorCrash),

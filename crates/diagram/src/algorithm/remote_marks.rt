@@ -11,7 +11,7 @@ use algorithms::{AlgorithmWorld, Copies, MemoryEvent, WordAccess};
 use std::alloc::{AllocError, Global};
 
 /// An event of a run, with the marks of its access.
-#[derive(Clone, Copy, Debug)]
+#[derive(Clone, Copy)]
 pub(crate) struct MarkedEvent {
     pub event: MonitorEvent,
     pub marks: Option<RemoteMarks>,

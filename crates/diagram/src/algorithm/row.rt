@@ -16,7 +16,7 @@ use rmecore::Phase;
 use std::alloc::AllocError;
 
 /// What a process of an algorithm does in one row.
-#[derive(Clone, Copy, Debug, PartialEq, Eq)]
+#[derive(Clone, Copy)]
 pub enum AlgorithmAct {
     /// A step, with the value that it reads, or stores where it reads none.
     Took(WordAccess, u64),
@@ -28,7 +28,7 @@ pub enum AlgorithmAct {
 }
 
 /// One row of a drawing of an algorithm's run. It reports one line at most.
-#[derive(Clone, Copy, Debug, PartialEq, Eq)]
+#[derive(Clone, Copy)]
 pub struct AlgorithmRow {
     pub p: u64,
     pub act: AlgorithmAct,

@@ -10,7 +10,7 @@ use schedule::lines::words::LineWords;
 use schedule::{Line, LineFault};
 
 /// The first word of a line that is a session's own.
-#[derive(Clone, Copy, Debug, PartialEq, Eq)]
+#[derive(Clone, Copy)]
 pub enum Verb {
     Undo,
     Redo,
@@ -21,7 +21,7 @@ pub enum Verb {
 }
 
 /// What a line of a session asks for.
-#[derive(Clone, Copy, Debug, PartialEq, Eq)]
+#[derive(Clone, Copy)]
 pub enum Request {
     /// Take this line of a schedule.
     Play(Line),

@@ -1,0 +1,5 @@
+pub mod Shrunk
+pub mod Rounds
+pub mod Hunts
+pub mod LeastHunts
+pub mod MeanCosts

@@ -1,0 +1,4 @@
+pub mod Shrunk
+pub mod Hunted
+pub mod Rounds
+pub mod MeanCosts

@@ -1,7 +1,7 @@
 //! Hunts on algorithms. What the hunt of a seed finds was found with the reference program and the drawing rule.
 
 use crate::support::{number, put_schedule, text_named};
-use algorithm_explorer::{AlgorithmHuntFault, Unwatched, hunt_algorithm_schedule};
+use algorithm_hunts::{AlgorithmHuntFault, Unwatched, hunt_algorithm_schedule};
 use algorithm_texts::read_algorithm;
 use schedule::Schedule;
 use std::alloc::Global;

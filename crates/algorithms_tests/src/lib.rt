@@ -33,7 +33,7 @@ mod mean_costs;
 mod memory;
 pub mod models;
 #[cfg(test)]
-mod promela;
+mod promela_models;
 #[cfg(test)]
 mod remote_references;
 #[cfg(test)]

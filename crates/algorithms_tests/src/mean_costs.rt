@@ -3,7 +3,7 @@
 
 use crate::remote_references::MODELS;
 use crate::support::{number, text_named};
-use algorithm_explorer::{RandomRounds, algorithm_cost_totals};
+use algorithm_hunts::{RandomRounds, algorithm_cost_totals};
 use algorithm_texts::read_algorithm;
 use std::alloc::Global;
 use std::fmt::Write;

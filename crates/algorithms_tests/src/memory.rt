@@ -5,7 +5,7 @@ use crate::reports::others::ONE_WORD;
 use crate::schedules::ALONE_BY_STEPS;
 use crate::sinks::{Kind, put_out, schedule_of};
 use crate::support::text_named;
-use algorithm_explorer::{
+use algorithm_hunts::{
     AlgorithmHuntFault, Unwatched, hunt_algorithm_schedule, shrink_algorithm_schedule,
 };
 use algorithm_lab::AlgorithmReplayFault;

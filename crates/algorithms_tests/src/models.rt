@@ -1,6 +1,6 @@
 //! Models of algorithms in Promela, as texts.
 
-use algorithm_explorer::promela::fixed::{MODEL_END, MODEL_HEAD, MODEL_MOVES, MODEL_PROCESS};
+use promela::fixed::{MODEL_END, MODEL_HEAD, MODEL_MOVES, MODEL_PROCESS};
 use std::alloc::{AllocError, Global};
 
 /// The parts of a model between those that are fixed: what is defined, what is declared, the private names, and the starts.

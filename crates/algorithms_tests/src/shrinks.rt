@@ -2,7 +2,7 @@
 //! two lines of steps made one.
 
 use crate::support::{put_fault, put_schedule, text_named};
-use algorithm_explorer::shrink_algorithm_schedule;
+use algorithm_hunts::shrink_algorithm_schedule;
 use algorithm_texts::read_algorithm;
 use schedule::read_schedule;
 use std::alloc::Global;

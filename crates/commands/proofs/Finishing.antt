@@ -2,11 +2,11 @@
 use Rattle.std.proofs.Common.{◌≡◌, ◌⊎◌, ◌∙◌, Bool, Result, Ok, Err, IfOk, OnOk, inl, inr, refl, sym, ap, subst}
 use Rattle.schedule.specs.Tapes.{Tape}
 use Rattle.cli.specs.declared.arguments.args.Command.{Command}
-use Rattle.commands.specs.declared.schedules.ending.Ending.{Ending}
-use Rattle.commands.specs.declared.schedules.fault.CommandFault.{CommandFault}
-use Rattle.commands.specs.declared.schedules.fault.CommandFault.TheVariants as faults
-use Rattle.commands.specs.Endings.{IsEnded}
-use Rattle.commands.specs.Folders.{Used}
+use Rattle.command_parts.specs.declared.fault.CommandFault.TheVariants as faults
+use Rattle.command_parts.specs.declared.ending.Ending.{Ending}
+use Rattle.command_parts.specs.declared.fault.CommandFault.{CommandFault}
+use Rattle.command_parts.specs.Endings.{IsEnded}
+use Rattle.command_parts.specs.Folders.{Used}
 use Rattle.commands.specs.Programs.{Finishes, IsFullyWritten}
 
 -- an end without a fault has none

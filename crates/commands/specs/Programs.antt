@@ -1,22 +1,22 @@
 -- What the program does with files, and when it writes to standard error.
 use Rattle.std.specs.Prelude.{◌≡◌, ◌≤◌, ◌⊎◌, ℕ, ◌+◌, ◌-◌, ◌^◌, min, List, ◌++◌, [], true, false, String, string_bytes, Vec, Option, None, is_some, option_to_list, Result, Ok, Err, IfOk, OnOk}
 use Rattle.std.specs.declared.alloc.Global.{Global}
-use Rattle.commands.specs.declared.schedules.ending.Ending.{Ending}
-use Rattle.commands.specs.declared.schedules.fault.CommandFault.{CommandFault}
-use Rattle.commands.specs.declared.schedules.fault.CommandFault.TheVariants.{BadVariant, BadSize, Read, Write, OutOfMemory}
+use Rattle.command_parts.specs.declared.fault.CommandFault.TheVariants.{BadVariant, BadSize, Read, Write, OutOfMemory}
 use Rattle.schedule.specs.Tapes.{Tape, Writes, Reading}
 use Rattle.cli.specs.declared.arguments.args.Command.{Command}
 use Rattle.cli.specs.declared.arguments.words.WordsFault.{WordsFault}
 use Rattle.cli.specs.declared.arguments.words.WordsFault.TheVariants as words
 use Rattle.commands.specs.Commands.{CommandEnds, SessionEndsOf}
-use Rattle.commands.specs.Devices.{Devices, devices}
-use Rattle.commands.specs.Endings.{IsEnded}
-pub use Rattle.commands.specs.Folders.{Used, is_session}
+use Rattle.command_parts.specs.Devices.{Devices, devices}
+use Rattle.command_parts.specs.declared.ending.Ending.{Ending}
+use Rattle.command_parts.specs.declared.fault.CommandFault.{CommandFault}
+use Rattle.command_parts.specs.Endings.{IsEnded}
+pub use Rattle.command_parts.specs.Folders.{Used, is_session}
 use Rattle.cli.specs.FilesNamed.{image_of, input_of, save_of, start_of}
-use Rattle.commands.specs.Lines.{fault_line, IsLineWritten}
+use Rattle.command_parts.specs.Lines.{fault_line, IsLineWritten}
 use Rattle.cli.specs.Sizes.{IsInRanges}
 use Rattle.cli.specs.ReadWords.{IsCommand, IsWordsRefusal, TakesWords, texts_of}
-use Rattle.commands.specs.Statuses.{save_ended, status_ended}
+use Rattle.command_parts.specs.Statuses.{save_ended, status_ended}
 
 -- ---- files
 
@@ -103,7 +103,7 @@ pub record KeepsFault (before now : Used) (ended end : Result Ending CommandFaul
   pub unsaved : SavesNone before now
 
 -- the image that is to be saved was saved, or that has failed
-pub record SavesLast (command : Command) (before now : Used) (ended end : Result Ending CommandFault) : Type 0 where
+pub record SavesImage (command : Command) (before now : Used) (ended end : Result Ending CommandFault) : Type 0 where
   pub ending : Ending
   pub is : ended ≡ Ok ending
   pub saves : SavesAll command before now ending.save
@@ -112,7 +112,7 @@ pub record SavesLast (command : Command) (before now : Used) (ended end : Result
 abbrev pub Finishes : Command → Used → Used → Tape → Tape → Result Ending CommandFault → Result Ending CommandFault → Type 0
 Finishes command before now output written ended end =
     CantFlush before now output written end
-    ⊎ (written ≡ output) × (KeepsFault before now ended end ⊎ SavesLast command before now ended end)
+    ⊎ (written ≡ output) × (KeepsFault before now ended end ⊎ SavesImage command before now ended end)
 
 -- what is done for a command: standard input is read if and only if no file is named
 pub record ExecutesCommand (command : Command) (before now : Devices) (end : Result Ending CommandFault) : Type 0 where

@@ -1,193 +1,42 @@
 //! The commands, over a reader and two writers.
 
-ghost use Rattle.std.specs.Prelude.{◌≡◌, ◌⊎◌, ◌≤◌, Result, ℕ, List, length, IfErr, IfOk, IfSome, IsNone, is_some, option_copied, true, false};
+ghost use Rattle.std.specs.Prelude.{◌≡◌, Result, ℕ, List, IfErr, IfOk, is_some, option_copied, true, false};
 ghost use Rattle.schedule.specs.Tapes.{Tape};
 ghost use Rattle.cli.specs.Report.{IsWritten};
-ghost use Rattle.crashlab.specs.hunts.Hunted.{found_from};
-ghost use Rattle.crashlab.specs.hunts.Hunts.{IsFound};
-ghost use Rattle.cli.specs.Sizes.{HuntFits};
-ghost use Rattle.commands.specs.Commands.{CommandEnds, ExplainEnds, HuntEnds, JudgeEnds, SessionEndsOf, TellsFound, verdict_text};
-ghost use Rattle.commands.specs.Devices.{devices};
-ghost use Rattle.commands.specs.Endings.{IsEnded, Prints};
+ghost use Rattle.commands.specs.Commands.{CommandEnds, ExplainEnds, SessionEndsOf};
+ghost use Rattle.command_parts.specs.Devices.{devices};
+ghost use Rattle.command_parts.specs.Endings.{IsEnded, Prints};
 ghost use Rattle.cli.specs.FilesNamed.{save_of};
 ghost use Rattle.commands.specs.Programs.{CarriesOut, IsReported};
-ghost use Rattle.commands.specs.Folders.{is_session};
-ghost use Rattle.commands.specs.Statuses.{status_after};
+ghost use Rattle.command_parts.specs.Folders.{is_session};
 
-use crate::algorithm_cost_command::algorithm_cost_command;
-use crate::algorithm_explore_command::algorithm_explore_command;
-use crate::algorithm_export_command::algorithm_export_command;
-use crate::algorithm_hunt_command::algorithm_hunt_command;
-use crate::algorithm_mean_command::algorithm_mean_command;
-use crate::explore_command::explore_command;
-use crate::folder::{Folder, NoFolder};
-use crate::jobs::jobs_of;
-use crate::progress::meter::Meter;
-use crate::progress::screen::{NoScreen, Screen};
-use crate::progress::work::Work;
-use crate::run_command::run_command;
-use crate::schedules::algorithm::algorithm_replay_command;
-use crate::schedules::algorithm_drawn::algorithm_draw_command;
-use crate::schedules::algorithm_shrunk::algorithm_shrink_command;
-use crate::schedules::drawn::draw_command;
-use crate::schedules::ending::{Ending, status_after_verdict};
-use crate::schedules::fault::CommandFault;
-use crate::schedules::findings::{tell_nothing, tell_schedule};
-use crate::schedules::line::write_fault;
-use crate::schedules::replay_command::replay_command;
-use crate::schedules::shrunk::shrink_command;
-use crate::sessions::algorithm::algorithm_session_command;
-use crate::sessions::session_loop::session_command;
-use crate::states::algorithm_states_command::algorithm_states_command;
-use crate::states::states_command::states_command;
-use cli::arguments::args::{Command, HuntArgs};
+use algorithm_commands::algorithm_cost_command::algorithm_cost_command;
+use algorithm_commands::algorithm_drawn::algorithm_draw_command;
+use algorithm_commands::algorithm_explore_command::algorithm_explore_command;
+use algorithm_commands::algorithm_export_command::algorithm_export_command;
+use algorithm_commands::algorithm_hunt_command::algorithm_hunt_command;
+use algorithm_commands::algorithm_mean_command::algorithm_mean_command;
+use algorithm_commands::algorithm_replay_command::algorithm_replay_command;
+use algorithm_commands::algorithm_session::algorithm_session_command;
+use algorithm_commands::algorithm_shrunk::algorithm_shrink_command;
+use algorithm_commands::algorithm_states_command::algorithm_states_command;
+use cli::arguments::args::Command;
 use cli::{DictionaryEntry, tell_all_names, tell_dictionary_entry};
-use crashlab::{HuntFault, Variant, hunt_in_parallel_watched, hunt_part, shrink_found};
-use diagram::put_verdict_object;
-use schedule::texts::device::write_all;
-use schedule::{Failed, Schedule, Sink, Source, Verdict, judge_trace, put_verdict};
-use std::alloc::{AllocError, Global};
+use command_parts::line::write_fault;
+use command_parts::{CommandFault, Ending, Folder, NoFolder, NoScreen, Screen};
+use lock_commands::drawn::draw_command;
+use lock_commands::explore_command::explore_command;
+use lock_commands::hunt_command::hunt_command;
+use lock_commands::judge_command::judge_command;
+use lock_commands::replay_command::replay_command;
+use lock_commands::run_command::run_command;
+use lock_commands::session_command::session_command;
+use lock_commands::shrunk::shrink_command;
+use lock_commands::states_command::states_command;
+use schedule::{Failed, Sink, Source};
+use std::alloc::Global;
 use std::sync::Wait;
 use std::thread::Threads;
-
-/// The line of a verdict, or its JSON object.
-fn verdict_line(alloc: Global, json: bool, verdict: Verdict) -> Result<Vec<u8>, AllocError>
-    ensures { IfOk result (λ line. line.items ≡ verdict_text json verdict) }
-{
-    let mut line = Vec::new(alloc);
-    if json {
-        put_verdict_object(&mut line, verdict)?;
-    } else {
-        put_verdict(&mut line, verdict)?;
-    }
-    Ok(line)
-}
-
-/// Writes a verdict.
-fn tell_verdict<W: Sink>(
-    alloc: Global,
-    json: bool,
-    verdict: Verdict,
-    w: &mut W,
-) -> Result<Ending, CommandFault>
-    ensures reports { Prints (status_after verdict) (verdict_text json verdict) (W.tape w.old) (W.tape w.new) result }
-    ensures ended { IfOk result (IsEnded false (W.tape w.old).failures (W.tape w.new).failures) }
-{
-    let line = verdict_line(alloc, json, verdict)?;
-    if write_all(w, &line).is_err() {
-        return Err(CommandFault::Write);
-    }
-    Ok(Ending {
-        status: status_after_verdict(verdict),
-        save: None,
-    })
-}
-
-/// Writes the verdict of a trace, as a line or as a JSON object.
-fn judge_command<R: Source, W: Sink>(
-    alloc: Global,
-    json: bool,
-    r: &mut R,
-    w: &mut W,
-) -> Result<Ending, CommandFault>
-    ensures ends { JudgeEnds json (R.reading r.old) (R.reading r.new) (W.tape w.old) (W.tape w.new) result }
-    ensures ended { IfOk result (IsEnded false (W.tape w.old).failures (W.tape w.new).failures) }
-{
-    let verdict = judge_trace(alloc, r)?;
-    tell_verdict(alloc, json, verdict, w)
-}
-
-/// Shrinks the schedule that a hunt has found, and writes it.
-fn tell_least<W: Sink>(
-    alloc: Global,
-    variant: Variant,
-    found: &Schedule,
-    w: &mut W,
-) -> Result<Ending, CommandFault>
-    requires { IsFound variant found.now }
-    ensures reports { TellsFound true variant found.now (W.tape w.old) (W.tape w.new) result }
-    ensures ended { IfOk result (IsEnded false (W.tape w.old).failures (W.tape w.new).failures) }
-{
-    let least = shrink_found(alloc, variant, found)?;
-    tell_schedule(alloc, &least, w)
-}
-
-/// Writes the schedule that a hunt has found, shrunk if that is asked for.
-fn tell_found<W: Sink>(
-    alloc: Global,
-    args: &HuntArgs,
-    found: &Schedule,
-    w: &mut W,
-) -> Result<Ending, CommandFault>
-    requires { IsFound args.now.variant found.now }
-    ensures reports { TellsFound args.now.shrink args.now.variant found.now (W.tape w.old) (W.tape w.new) result }
-    ensures ended { IfOk result (IsEnded false (W.tape w.old).failures (W.tape w.new).failures) }
-{
-    if args.shrink {
-        tell_least(alloc, args.variant, found, w)
-    } else {
-        tell_schedule(alloc, found, w)
-    }
-}
-
-/// The schedule that a hunt finds, from its first round on. From round 0 on it is hunted by threads. Progress is shown on the screen.
-fn schedule_of_hunt<T: Threads + Sync, S: Screen>(
-    rt: &T,
-    alloc: Global,
-    args: &HuntArgs,
-    screen: &mut S,
-) -> Result<Option<Schedule>, HuntFault>
-    ensures exact { IfOk result (λ found. found
-        ≡ found_from args.now.variant args.now.seed args.now.steps args.now.first_round args.now.rounds) }
-    ensures right { args.now.variant ≡ Variant.Right → IfOk result IsNone }
-    ensures found { IfOk result (λ found. IfSome found (λ schedule. IsFound args.now.variant schedule)) }
-    ensures moves { IfOk result (λ found. IfSome found (λ schedule. length schedule.lines ≤ args.now.steps)) }
-    ensures failed { IfErr result (λ fault. (fault ≡ HuntFault.OutOfMemory) ⊎ (HuntFits args.now → ⊥)) }
-{
-    if args.first_round > 0 {
-        return hunt_part(
-            alloc,
-            args.variant,
-            args.seed,
-            args.first_round,
-            args.rounds,
-            args.steps,
-        );
-    }
-    let mut meter = Meter::new(screen, Work::Hunt);
-    let found = hunt_in_parallel_watched(
-        rt,
-        alloc,
-        jobs_of(rt, args.jobs),
-        args.variant,
-        args.seed,
-        args.rounds,
-        args.steps,
-        &mut meter,
-    );
-    meter.end();
-    found
-}
-
-/// Runs `hunt`: writes the schedule that was found, or that there is none. It is the same for any number of threads. Progress
-/// is shown on the screen. `BadSize`: a number is outside its range. Other faults are those of the writer and of memory.
-pub fn hunt_command<T: Threads + Sync, S: Screen, W: Sink>(
-    rt: &T,
-    alloc: Global,
-    args: &HuntArgs,
-    screen: &mut S,
-    w: &mut W,
-) -> Result<Ending, CommandFault>
-    ensures ends { HuntEnds args.now (W.tape w.old) (W.tape w.new) result }
-    ensures ended { IfOk result (IsEnded false (W.tape w.old).failures (W.tape w.new).failures) }
-{
-    match schedule_of_hunt(rt, alloc, args, screen) {
-        Ok(Some(schedule)) => tell_found(alloc, args, &schedule, w),
-        Ok(None) => tell_nothing(w),
-        Err(HuntFault::BadRounds | HuntFault::BadSteps) => Err(CommandFault::BadSize),
-        Err(HuntFault::OutOfMemory) => Err(CommandFault::OutOfMemory),
-    }
-}
 
 /// How a command ends that had a text to write.
 fn ending_after(written: Result<(), Failed>) -> Result<Ending, CommandFault>

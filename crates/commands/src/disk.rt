@@ -2,7 +2,7 @@
 
 ghost use Rattle.std.specs.Prelude.{◌≡◌, []};
 
-use crate::folder::{FileFault, Folder};
+use command_parts::{FileFault, Folder};
 use histories::Log;
 use schedule::FromReader;
 use std::io::ErrorKind;

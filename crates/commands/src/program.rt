@@ -1,24 +1,21 @@
 //! The whole program, over its words, a folder of files, its input and its two outputs.
 
 ghost use Rattle.std.specs.Prelude.{◌≡◌, ◌⊎◌, ◌+◌, ◌-◌, ◌^◌, ◌++◌, ◌∷◌, [], min, true, false, None, is_some, option_to_list, IfErr, IfOk, IsErr, IsOk, OnErr, OnOk};
-ghost use Rattle.commands.specs.Endings.{IsEnded};
+ghost use Rattle.command_parts.specs.Endings.{IsEnded};
 ghost use Rattle.schedule.specs.Tapes.{Writes};
 ghost use Rattle.cli.specs.FilesNamed.{image_of, input_of, save_of, start_of};
-ghost use Rattle.commands.specs.Lines.{IsLineWritten};
-ghost use Rattle.commands.specs.Devices.{devices};
-ghost use Rattle.commands.specs.Folders.{is_session};
+ghost use Rattle.command_parts.specs.Lines.{IsLineWritten};
+ghost use Rattle.command_parts.specs.Devices.{devices};
+ghost use Rattle.command_parts.specs.Folders.{is_session};
 ghost use Rattle.commands.specs.Programs.{ReportsWordsFault, CantBuffer, EndsWithStatus, ExecutesCommand, EndsOnFile, EndsOnInput, Finishes, IsCommandAsked, IsProgram, IsUnasked, Obeys, opens_all, OpensSome, PrintsHelp, PrintsUsageError, RunsWords, SavesAll, SessionEndsIn, nothing_read};
 ghost use Rattle.commands.specs.Faults.{fault_of_opening, fault_of_saving};
 ghost use Rattle.std.specs.Process.{exit_status};
 
 use crate::command::carry_out;
-use crate::folder::{FileFault, Folder};
-use crate::progress::screen::Screen;
-use crate::schedules::ending::Ending;
-use crate::schedules::fault::CommandFault;
-use crate::schedules::line::write_fault;
 use cli::arguments::args::Command;
 use cli::arguments::words::{WordsFault, read_words};
+use command_parts::line::write_fault;
+use command_parts::{CommandFault, Ending, FileFault, Folder, Screen};
 use schedule::replays::pieces::read_all;
 use schedule::texts::device::write_all;
 use schedule::{Failed, FromReader, Sink, Source, ToWriter};

@@ -7,11 +7,11 @@
 pub use cli::arguments::args::Command;
 use cli::arguments::words::words_given;
 pub use cli::arguments::words::{WordsFault, read_words};
+pub use commands::Ending;
 use commands::Terminal;
 pub use commands::command::command;
 use commands::disk::Disk;
 use commands::program::run_program;
-pub use commands::schedules::ending::Ending;
 use std::io::{BufWriter, IsTerminal};
 use std::process::ExitCode;
 

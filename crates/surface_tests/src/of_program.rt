@@ -6,9 +6,8 @@ use cli::{
     meaning_of, read_words, tell_all_names, tell_dictionary_entry,
 };
 use commands::command::{command, command_shown};
-use commands::folder::Folder;
 use commands::program::{obey, program, run_program};
-use commands::{Ending, NoScreen, Screen};
+use commands::{Ending, Folder, NoScreen, Screen};
 use schedule::{Failed, Sink, Source};
 use std::alloc::Global;
 use std::io::{self, BufWriter, Read, Write};

@@ -3,8 +3,8 @@
 use crate::support::invocation::{all_come_to, comes_to};
 use crate::support::row::ProgramRow;
 use cli::arguments::words::words_given;
+use commands::CommandFault;
 use commands::program::close;
-use commands::schedules::fault::CommandFault;
 use schedule::Page;
 use std::env::FillError;
 use std::rt::Env;

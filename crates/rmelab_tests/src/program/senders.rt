@@ -2,9 +2,9 @@
 
 use crate::support::invocation::all_come_to;
 use cli::arguments::args::RunArgs;
-use commands::run_command::{gates_of, lines_of, status_of_tallies};
-use commands::tally::tallies_of;
 use crashlab::{CrashPlan, Seeded};
+use lock_commands::run_command::{gates_of, lines_of, status_of_tallies};
+use lock_commands::tally::tallies_of;
 use redomail::Message;
 use rmecore::Body;
 use std::test::Fail;

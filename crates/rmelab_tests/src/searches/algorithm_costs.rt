@@ -1,7 +1,7 @@
 //! The costs of algorithms. The schedules are those of the reference program of the format's second version, with the moves in the
 //! order in which `rmelab` tries them.
 
-use crate::searches::algorithm_commands;
+use crate::searches::algorithm_runs;
 use crate::searches::named_texts::example_algorithms;
 use crate::support::invocation::{all_come_to, program_comes_to};
 use std::test::Fail;
@@ -125,7 +125,7 @@ rmelab: algorithm line 6: fault 7: a second access in one line
 #[test]
 fn costs_of_an_algorithm(rt: HostRuntime) -> Result<(), Fail> {
     let algorithms = example_algorithms(rt.alloc())?;
-    let texts = [algorithms.as_str(), TEXTS, algorithm_commands::TEXTS];
+    let texts = [algorithms.as_str(), TEXTS, algorithm_runs::TEXTS];
     all_come_to(&rt, rt.alloc(), &texts, COSTS)?;
     program_comes_to(&rt, rt.alloc(), &texts, COSTS_THAT_FAIL)
 }

@@ -1,6 +1,6 @@
 //! Models of algorithms for other tools, and what is refused.
 
-use crate::searches::algorithm_commands;
+use crate::searches::algorithm_runs;
 use crate::searches::named_texts::example_algorithms;
 use crate::support::invocation::{all_come_to, program_comes_to};
 use algorithms_tests::models::{PETERSON, whole_model};
@@ -34,11 +34,7 @@ rmelab: algorithm line 6: fault 7: a second access in one line
 fn models_of_an_algorithm(rt: HostRuntime) -> Result<(), Fail> {
     let algorithms = example_algorithms(rt.alloc())?;
     let models = models(rt.alloc())?;
-    let texts = [
-        algorithms.as_str(),
-        models.as_str(),
-        algorithm_commands::TEXTS,
-    ];
+    let texts = [algorithms.as_str(), models.as_str(), algorithm_runs::TEXTS];
     all_come_to(&rt, rt.alloc(), &texts, EXPORTS)?;
     program_comes_to(&rt, rt.alloc(), &texts, EXPORTS_THAT_FAIL)
 }

@@ -2,7 +2,7 @@
 
 use crate::searches::named_texts::example_algorithms;
 use crate::searches::{
-    algorithm_commands, algorithm_costs, algorithm_explores, algorithm_exports, explores, shrinks,
+    algorithm_costs, algorithm_explores, algorithm_exports, algorithm_runs, explores, shrinks,
 };
 use crate::support::invocation::all_meet_refusals;
 use std::test::Fail;
@@ -45,7 +45,7 @@ fn out_of_memory(rt: HostRuntime) -> Result<(), Fail> {
         &[
             algorithms.as_str(),
             models.as_str(),
-            algorithm_commands::TEXTS,
+            algorithm_runs::TEXTS,
             algorithm_costs::TEXTS,
             algorithm_explores::TEXTS,
             explores::TEXTS,

@@ -1,7 +1,7 @@
 //! A folder in memory, which may fail, and which device of an invocation fails.
 
 use crate::support::devices::Feed;
-use commands::folder::{FileFault, Folder};
+use commands::{FileFault, Folder};
 use histories::Log;
 use schedule::FromReader;
 use std::alloc::Global;

@@ -1,6 +1,6 @@
 use Rattle.std.proofs.Common.{subst, sym, option_copied}
 use Rattle.commands.specs.Commands.{CommandEnds, SessionEndsOf}
-use Rattle.commands.specs.Devices.{devices}
+use Rattle.command_parts.specs.Devices.{devices}
 use Rattle.commands.proofs.command.carry_out.Goals as goal
 
 -- a replay ends as `replay_command` says

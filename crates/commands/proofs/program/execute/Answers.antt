@@ -1,5 +1,5 @@
 use Rattle.std.proofs.Common.{◌∙◌, option_copied}
-use Rattle.commands.proofs.Beginning.{in_folder, copied_some}
+use Rattle.commands.proofs.Sessions.{in_folder, copied_some}
 use Rattle.commands.proofs.program.execute.Goals as goal
 
 -- a session as `carry_out` says, over the texts that were read

@@ -1,6 +1,6 @@
 use Rattle.std.proofs.Common.{subst}
 use Rattle.schedule.specs.Tapes.{Reading}
-use Rattle.commands.specs.Devices.{devices}
+use Rattle.command_parts.specs.Devices.{devices}
 use Rattle.commands.specs.Programs.{IsProgram}
 use Rattle.commands.proofs.program.program_from_start.Goals as goal
 

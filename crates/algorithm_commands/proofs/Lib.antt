@@ -1,0 +1,13 @@
+pub mod AlgorithmCosts
+pub mod AlgorithmExplores
+pub mod AlgorithmExports
+pub mod AlgorithmHunts
+pub mod AlgorithmMeanCosts
+pub mod AlgorithmPaths
+pub mod AlgorithmReplays
+pub mod AlgorithmSessions
+pub mod AlgorithmShrinks
+pub mod AlgorithmStarving
+pub mod AlgorithmStates
+pub mod AlgorithmStuck
+pub mod AlgorithmTexts

@@ -1,0 +1,10 @@
+use Rattle.std.proofs.Common.{option_copied}
+use Rattle.algorithms.specs.declared.first_values.InitializedAlgorithm.{InitializedAlgorithm}
+use Rattle.algorithm_commands.specs.AlgorithmExplores.{StuckSearchEnds}
+use Rattle.algorithm_commands.proofs.AlgorithmTexts.{algorithm_read}
+use Rattle.algorithm_commands.proofs.algorithm_explore_command.search_stuck.Goals as goal
+
+pub returns-clause-ends : goal.returns-clause-ends
+returns-clause-ends g c =
+    algorithm_read (option_copied c.args.text) (λ (a : InitializedAlgorithm). StuckSearchEnds a c.args.args.now (g.W.Sink.tape c.args.w.now) (g.W.Sink.tape c.tell_stuck.new.w) c.tell_stuck.result)
+    _ _ c.tell_stuck.result c.in_ok-algorithm.algorithm c.in_ok-algorithm.ensures.spells c.in_ok-algorithm.ensures.ends c.in_ok-algorithm.ensures.leads c.tell_stuck.ensures.ends

@@ -1,0 +1,12 @@
+pub mod AlgorithmCosts
+pub mod AlgorithmDraws
+pub mod AlgorithmExplores
+pub mod AlgorithmExports
+pub mod AlgorithmFindings
+pub mod AlgorithmHunts
+pub mod AlgorithmMeanCosts
+pub mod AlgorithmReplays
+pub mod AlgorithmSessions
+pub mod AlgorithmShrinks
+pub mod AlgorithmStates
+pub mod AlgorithmTexts

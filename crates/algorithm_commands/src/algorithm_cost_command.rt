@@ -1,0 +1,139 @@
+//! The command `cost`.
+
+ghost use Rattle.std.specs.Prelude.{◌≡◌, ◌++◌, ◌≤◌, false, length, IfOk, option_copied};
+ghost use Rattle.algorithm_commands.specs.AlgorithmCosts.{AlgorithmCostEnds, CostsAlgorithm, cost_line as cost_line_by, question_of as question_asked, unbounded_line as unbounded_line_by};
+ghost use Rattle.algorithm_commands.specs.AlgorithmExplores.{schedule_of as schedule_by};
+ghost use Rattle.command_parts.specs.Endings.{IsEnded, Prints};
+ghost use Rattle.schedule.specs.Schedules.{spelling};
+
+use crate::algorithm_explore_command::{calls_of, schedule_of};
+use crate::algorithm_replay_command::algorithm_read;
+use crate::line::{cost_line, unbounded_line};
+use algorithm_explorer::{
+    AlgorithmCost, AlgorithmExploreFault, AlgorithmMove, CostQuestion, CostlySchedule, CrashesLeft,
+    Lasso, algorithm_cost,
+};
+use algorithms::InitializedAlgorithm;
+use cli::arguments::args::CostArgs;
+use command_parts::findings::tell_text;
+use command_parts::{CommandFault, Ending, Meter, Screen, Work};
+use schedule::{Schedule, Sink, write_schedule};
+use std::alloc::Global;
+
+/// What is asked.
+fn question_of(args: &CostArgs) -> CostQuestion
+    ensures { result ≡ question_asked args.now }
+{
+    CostQuestion {
+        model: args.model,
+        kind: args.kind,
+    }
+}
+
+/// Writes a schedule, and then a line.
+fn tell_with_line<W: Sink>(
+    alloc: Global,
+    schedule: &Schedule,
+    line: &[u8],
+    status: u8,
+    w: &mut W,
+) -> Result<Ending, CommandFault>
+    requires { status ≤ 1 }
+    ensures prints { Prints status (spelling schedule.now ++ line.now) (W.tape w.old) (W.tape w.new) result }
+    ensures ended { IfOk result (IsEnded false (W.tape w.old).failures (W.tape w.new).failures) }
+{
+    let mut text = write_schedule(alloc, schedule)?;
+    text.extend_from_slice(line)?;
+    tell_text(&text, status, w)
+}
+
+/// Writes a schedule that reaches the greatest cost, and what a passage costs on it.
+fn tell_cost<W: Sink>(
+    alloc: Global,
+    args: &CostArgs,
+    found: &CostlySchedule,
+    w: &mut W,
+) -> Result<Ending, CommandFault>
+    ensures prints { Prints 0 (spelling (schedule_by args.now.search found.now.schedule.items)
+        ++ cost_line_by args.now.kind found.now.process found.now.cost) (W.tape w.old) (W.tape w.new) result }
+    ensures ended { IfOk result (IsEnded false (W.tape w.old).failures (W.tape w.new).failures) }
+{
+    let schedule = schedule_of(alloc, &args.search, found.schedule.as_slice())?;
+    let line = cost_line(args.kind, found.process, found.cost);
+    tell_with_line(alloc, &schedule, line.as_bytes(), 0, w)
+}
+
+/// Writes a lasso: its stem and its cycle as a schedule, and of which process no cost is the greatest.
+fn tell_unbounded<W: Sink>(
+    alloc: Global,
+    args: &CostArgs,
+    lasso: &Lasso<AlgorithmMove>,
+    w: &mut W,
+) -> Result<Ending, CommandFault>
+    ensures prints { Prints 1 (spelling (schedule_by args.now.search (lasso.now.stem.items ++ lasso.now.cycle.items))
+        ++ unbounded_line_by args.now.kind lasso.now.process (length lasso.now.cycle.items)) (W.tape w.old) (W.tape w.new) result }
+    ensures ended { IfOk result (IsEnded false (W.tape w.old).failures (W.tape w.new).failures) }
+{
+    let mut path = Vec::from_slice(alloc, lasso.stem.as_slice())?;
+    let cycle = lasso.cycle.as_slice();
+    path.extend_from_slice(cycle)?;
+    let schedule = schedule_of(alloc, &args.search, &path)?;
+    let line = unbounded_line(args.kind, lasso.process, cycle.len() as u64);
+    tell_with_line(alloc, &schedule, line.as_bytes(), 1, w)
+}
+
+/// Writes the greatest cost of a passage of the algorithm with a schedule that reaches it, or a cycle by which there is none.
+fn tell_costs<S: Screen, W: Sink>(
+    alloc: Global,
+    algorithm: InitializedAlgorithm,
+    args: &CostArgs,
+    screen: &mut S,
+    w: &mut W,
+) -> Result<Ending, CommandFault>
+    ensures ends { CostsAlgorithm algorithm args.now (W.tape w.old) (W.tape w.new) result }
+    ensures ended { IfOk result (IsEnded false (W.tape w.old).failures (W.tape w.new).failures) }
+{
+    let calls = calls_of(alloc, &algorithm, &args.search)?;
+    let mut meter = Meter::new(screen, Work::Search);
+    let found = algorithm_cost(
+        alloc,
+        algorithm,
+        args.search.procs,
+        args.search.limit,
+        CrashesLeft {
+            alone: Some(args.search.crashes),
+            together: args.search.system_crashes,
+        },
+        &calls,
+        question_of(args),
+        args.search.states,
+        &mut meter,
+    );
+    meter.end();
+    match found {
+        Ok(AlgorithmCost::Greatest(found)) => tell_cost(alloc, args, &found, w),
+        Ok(AlgorithmCost::Unbounded(lasso)) => tell_unbounded(alloc, args, &lasso, w),
+        Err(AlgorithmExploreFault::Refused(_)) => Err(CommandFault::BadSize),
+        Err(AlgorithmExploreFault::TooManyStates) => Err(CommandFault::TooManyStates),
+        Err(AlgorithmExploreFault::OutOfMemory) => Err(CommandFault::OutOfMemory),
+    }
+}
+
+/// Runs `cost`: reads the algorithm from its text, searches its schedules in this thread, and writes the greatest cost of a passage
+/// with a schedule that reaches it, or a schedule whose last moves are a cycle by which there is none. Progress is shown on the
+/// screen. `Algorithm`: the text's fault. `BadSize`: the algorithm is not for this number of processes, or the limit is outside its
+/// range. `TooManyStates`: the search reached more states than it may keep.
+#[tactic(auto, using(crate::proofs::AlgorithmTexts::no_algorithm_alone))]
+pub fn algorithm_cost_command<S: Screen, W: Sink>(
+    alloc: Global,
+    args: &CostArgs,
+    text: Option<&[u8]>,
+    screen: &mut S,
+    w: &mut W,
+) -> Result<Ending, CommandFault>
+    ensures ends { AlgorithmCostEnds args.now (option_copied text.entry) (W.tape w.old) (W.tape w.new) result }
+    ensures ended { IfOk result (IsEnded false (W.tape w.old).failures (W.tape w.new).failures) }
+{
+    let algorithm = algorithm_read(alloc, text)?;
+    tell_costs(alloc, algorithm, args, screen, w)
+}

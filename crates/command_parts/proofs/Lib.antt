@@ -1,0 +1,8 @@
+pub mod Beginning
+pub mod Holding
+pub mod ReportObjects
+pub mod SetBlocks
+pub mod StateSets
+pub mod StateTexts
+pub mod StatesEnds
+pub mod Writing

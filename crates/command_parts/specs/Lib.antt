@@ -1,0 +1,14 @@
+pub mod AlgorithmFaults
+pub mod Conversations
+pub mod Devices
+pub mod Endings
+pub mod Findings
+pub mod Folders
+pub mod Lines
+pub mod Options
+pub mod ReportObjects
+pub mod ScheduleTexts
+pub mod Shown
+pub mod StateTexts
+pub mod StatesFaults
+pub mod Statuses

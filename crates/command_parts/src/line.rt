@@ -1,0 +1,132 @@
+//! The one line of a fault, in a buffer of fixed size: it needs no memory.
+
+ghost use Rattle.std.specs.Prelude.{◌≡◌, ◌+◌, ◌<◌, ◌≤◌, ◌/◌, ◌++◌, ◌∷◌, [], codes, length};
+ghost use Rattle.std.specs.Fmt.{decimal};
+ghost use Rattle.command_parts.specs.AlgorithmFaults.{number_of_text_fault, sentence_of};
+ghost use Rattle.command_parts.specs.Lines.{fault_line, IsLineWritten};
+ghost use Rattle.command_parts.specs.Findings.{starves_line as starves_line_by};
+ghost use Rattle.command_parts.specs.StatesFaults.{number_of_states_fault, sentence_of_states_fault};
+ghost use Rattle.command_parts.specs.Statuses.{status_of};
+
+use crate::algorithm_fault::{number_of_text_fault, sentence_of};
+use crate::fault::CommandFault;
+use crate::states::states_fault::StatesFault;
+use algorithms::ReadFault;
+use arrayvec::ArrayString;
+use itoa::Buffer;
+use schedule::Sink;
+use schedule::texts::device::write_all;
+
+/// Appends a text and then a number to a line.
+pub fn put(line: &mut ArrayString<128>, text: &str, number: u64)
+    requires { length line.old.bytes + length text.now + 20 ≤ 128 }
+    ensures bytes { line.new.bytes ≡ line.old.bytes ++ text.now ++ decimal number }
+    ensures few { length line.new.bytes ≤ length line.old.bytes + length text.now + 20 }
+{
+    line.push_str(text);
+    line.push_str(Buffer::new().format(number));
+}
+
+/// The line for a fault of an input line.
+fn line_of_place(at: u64, cause: &str, number: u64) -> ArrayString<128>
+    requires { length cause.now ≤ 20 }
+    ensures { result.bytes ≡ codes "rmelab: line " ++ decimal at ++ cause.now ++ decimal number ++ 10 ∷ [] }
+{
+    let mut line = ArrayString::new();
+    put(&mut line, "rmelab: line ", at);
+    put(&mut line, cause, number);
+    line.push_str("\n");
+    line
+}
+
+/// The line for a fault of a line of an algorithm's text.
+fn line_of_algorithm(at: u64, fault: ReadFault) -> ArrayString<128>
+    ensures { result.bytes ≡ codes "rmelab: algorithm line " ++ decimal at ++ codes ": fault " ++ decimal (number_of_text_fault fault)
+        ++ codes ": " ++ sentence_of fault ++ 10 ∷ [] }
+{
+    let mut line = ArrayString::new();
+    put(&mut line, "rmelab: algorithm line ", at);
+    put(&mut line, ": fault ", number_of_text_fault(fault));
+    line.push_str(": ");
+    line.push_str(sentence_of(fault));
+    line.push_str("\n");
+    line
+}
+
+/// The line for a fault of a line of states.
+fn line_of_states(at: u64, fault: StatesFault) -> ArrayString<128>
+    ensures { result.bytes ≡ codes "rmelab: states line " ++ decimal at ++ codes ": fault " ++ decimal (number_of_states_fault fault)
+        ++ codes ": " ++ sentence_of_states_fault fault ++ 10 ∷ [] }
+{
+    let mut line = ArrayString::new();
+    put(&mut line, "rmelab: states line ", at);
+    put(&mut line, ": fault ", fault.number());
+    line.push_str(": ");
+    line.push_str(fault.sentence());
+    line.push_str("\n");
+    line
+}
+
+/// A line of a text, a number and a text.
+pub fn line_around(before: &str, number: u64, after: &str) -> ArrayString<128>
+    requires { (length before.now ≤ 21) × (length after.now ≤ 20) }
+    ensures { result.bytes ≡ before.now ++ decimal number ++ after.now }
+{
+    let mut line = ArrayString::new();
+    put(&mut line, before, number);
+    line.push_str(after);
+    line
+}
+
+/// The line that tells whose call starves, and how many moves of the schedule before it are the cycle.
+pub(crate) fn starves_line(process: u64, cycle: u64) -> ArrayString<128>
+    ensures { result.bytes ≡ starves_line_by process cycle }
+{
+    let mut line = ArrayString::new();
+    put(&mut line, "starves ", process);
+    put(&mut line, " cycle ", cycle);
+    line.push_str("\n");
+    line
+}
+
+/// The line with this text, which has room in it.
+fn line_of_text(text: &str) -> ArrayString<128>
+    requires { length text.now ≤ 40 }
+    ensures { result.bytes ≡ text.now }
+{
+    let mut line = ArrayString::new();
+    line.push_str(text);
+    line
+}
+
+/// The one line of a fault.
+pub fn line_of(fault: CommandFault) -> ArrayString<128>
+    ensures { result.bytes ≡ fault_line fault }
+{
+    match fault {
+        CommandFault::Text { line, number } => line_of_place(line, ": fault ", number),
+        CommandFault::Refused { line, number } => line_of_place(line, ": refused ", number),
+        CommandFault::Algorithm { line, fault } => line_of_algorithm(line, fault),
+        CommandFault::States { line, fault } => line_of_states(line, fault),
+        CommandFault::Image { rule } => line_around("rmelab: image: rule ", rule, "\n"),
+        CommandFault::Member { p } => line_around("rmelab: member ", p, " failed\n"),
+        CommandFault::BadVariant => line_of_text("rmelab: bad variant\n"),
+        CommandFault::BadSize => line_of_text("rmelab: bad size\n"),
+        CommandFault::Read => line_of_text("rmelab: read failed\n"),
+        CommandFault::Write => line_of_text("rmelab: write failed\n"),
+        CommandFault::OutOfMemory => line_of_text("rmelab: out of memory\n"),
+        CommandFault::TooManyStates => line_of_text("rmelab: too many states\n"),
+    }
+}
+
+/// Writes the one line of a fault to `e`, and answers its exit status. It needs no memory. A failed write is ignored: the
+/// exit status still says that there was a fault.
+pub fn write_fault<E: Sink>(fault: CommandFault, e: &mut E) -> u8
+    ensures status { result ≡ status_of fault }
+    ensures least { 2 ≤ result }
+    ensures line { IsLineWritten (E.tape e.old) (E.tape e.new) (fault_line fault) }
+{
+    let line = line_of(fault);
+    let _ = write_all(e, line.as_bytes());
+    fault.status()
+}

@@ -1,7 +1,0 @@
-use Rattle.std.proofs.Common.{◌≡◌, map, take}
-use Rattle.commands.specs.AlgorithmFindings.{line_by}
-use Rattle.commands.proofs.algorithm_explore_command.schedule_of.Given as goal
-
-abbrev pub invariant-loop-made : goal.invariant-loop-made
-invariant-loop-made l =
-    l.schedule ≡ record { procs = l.args.procs; limit = l.args.limit; cap = 1; width = 1; lines = map line_by (take l.made-index l.path) }

@@ -1,6 +1,0 @@
-use Rattle.std.proofs.Common.{take}
-use Rattle.commands.proofs.Tallies.{AreCounted}
-use Rattle.commands.proofs.tally.tallies_of.Given as goal
-
-abbrev pub invariant-loop-message : goal.invariant-loop-message
-invariant-loop-message l = AreCounted l.procs (take l.message-index l.messages) l.tallies.items l.met.keys

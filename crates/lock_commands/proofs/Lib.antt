@@ -1,0 +1,9 @@
+pub mod CutShort
+pub mod Draws
+pub mod Gates
+pub mod Judging
+pub mod Replays
+pub mod Runs
+pub mod States
+pub mod Tallies
+pub mod Telling

@@ -1,0 +1,10 @@
+pub mod Draws
+pub mod Ends
+pub mod Explores
+pub mod Gates
+pub mod Replays
+pub mod Settings
+pub mod Shrinks
+pub mod States
+pub mod Tallies
+pub mod Tellings

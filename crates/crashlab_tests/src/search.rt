@@ -1,7 +1,11 @@
-//! Worked rows of the search, and a small state space whose shortest path is known beforehand.
+//! Worked rows of the search, and small state spaces whose shortest paths are known beforehand.
 
 #[cfg(test)]
-mod closed_sets;
+mod cases;
+#[cfg(test)]
+mod jug_searches;
+#[cfg(test)]
+mod jug_sets;
 pub mod jugs;
 #[cfg(test)]
 mod lock_streams;
@@ -9,18 +13,6 @@ mod lock_streams;
 mod scarce_memory;
 #[cfg(test)]
 mod schedules;
-#[cfg(test)]
-mod searches;
-#[cfg(test)]
-mod set_texts;
-#[cfg(test)]
-mod set_walks;
 pub mod spins;
 #[cfg(test)]
-mod starving;
-#[cfg(test)]
-mod starving_worlds;
-#[cfg(test)]
-mod streams;
-#[cfg(test)]
-mod stuck;
+mod worlds;

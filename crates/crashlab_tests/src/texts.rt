@@ -16,7 +16,7 @@ mod everything;
 #[cfg(test)]
 mod hunts;
 #[cfg(test)]
-mod kit;
+pub mod kit;
 #[cfg(test)]
 mod lock;
 #[cfg(test)]
@@ -25,6 +25,8 @@ mod mailbox;
 mod refusals;
 #[cfg(test)]
 mod shrinks;
+#[cfg(test)]
+mod tables;
 #[cfg(test)]
 mod texts;
 #[cfg(test)]

@@ -2,11 +2,10 @@
 //! too. The answer is that memory ran out, or the same as of one job with all memory.
 
 use crate::search::jugs::{Jugs, Pour};
+use crate::search::schedules::Sizes;
 use crashlab::{HuntFault, Variant, hunt, hunt_in_parallel};
 use explorer::{SearchFault, SearchOutcome, Unwatched, search, search_in_parallel};
-use lock_explorer::{
-    Bounds, ExploreFault, Move, Variables, shortest_schedule, shortest_schedule_in_parallel,
-};
+use lock_explorer::{Bounds, ExploreFault, Move, Variables, shortest_schedule_in_parallel};
 use redomail::Layout;
 use rmeworld::Call;
 use schedule::{Schedule, write_schedule};
@@ -40,24 +39,28 @@ fn makes_thread<R: Threads>(rt: &R) -> bool {
     }
 }
 
-/// Makes the call again after each refusal, which it answers by None, until it answers whether it comes to the same as with
-/// all memory. Then a thread can be made, or it can't.
-fn at_last<R: Threads + Abort, F: Fn() -> Option<bool>>(
+/// Takes all memory, and makes the call again after each refusal, which it answers by None, until it answers whether it comes to the
+/// same as with all memory. Then a thread can be made, or it can't.
+fn refuse_in_turn<R: Threads + Sync + Abort, F: Fn() -> Option<bool>>(
     rt: &R,
-    spare: Vec<Vec<u8>>,
-    scarce_memory: ScarceMemory,
+    alloc: Global,
+    name: &str,
     with_threads: bool,
     call: F,
-)
+) -> Result<(), AllocError>
     requires { F.IsAlwaysCallable call }
 {
-    let mut spare = spare;
-    let mut scarce_memory = scarce_memory;
+    let mut spare = spare(alloc)?;
+    let mut scarce_memory = if with_threads {
+        ScarceMemory::of_threads(rt, alloc)?
+    } else {
+        ScarceMemory::new(alloc)?
+    };
     for refused in 0..PIECES + SPARE {
         if let Some(is_same) = call() {
-            assert!(rt; refused > 0 && is_same, "{refused}");
-            assert!(rt; makes_thread(rt) == with_threads);
-            return;
+            assert!(rt; refused > 0 && is_same, "{name}, after {refused} refusals");
+            assert!(rt; makes_thread(rt) == with_threads, "{name}");
+            return Ok(());
         }
         scarce_memory.give_back();
         if refused >= PIECES {
@@ -65,7 +68,7 @@ fn at_last<R: Threads + Abort, F: Fn() -> Option<bool>>(
             drop(piece);
         }
     }
-    panic!(rt; "never an answer")
+    panic!(rt; "{name}: never an answer")
 }
 
 /// Empty jugs, of which the big one has to hold four litres.
@@ -76,184 +79,98 @@ const EMPTY: Jugs = Jugs {
     spills: 0,
 };
 
-/// The path by this many jobs.
-fn poured<R: Threads + Sync>(
-    rt: &R,
-    alloc: Global,
-    jobs: usize,
-) -> Result<SearchOutcome<Pour>, SearchFault> {
-    let jobs = vec![in alloc; EMPTY; jobs.min(64)]?;
-    search_in_parallel(rt, alloc, EMPTY, jobs, 100, 100, &mut Unwatched)
-}
-
-/// Whether it is the path by one. None: memory ran out.
+/// Whether the path by this many jobs is the path by one. None: memory ran out.
 fn is_poured<R: Threads + Sync>(
     rt: &R,
     alloc: Global,
     jobs: usize,
     one: &Result<SearchOutcome<Pour>, SearchFault>,
 ) -> Option<bool> {
-    match poured(rt, alloc, jobs) {
+    let jobs = vec![in alloc; EMPTY; jobs.min(64)].ok()?;
+    match search_in_parallel(rt, alloc, EMPTY, jobs, 100, 100, &mut Unwatched) {
         Err(SearchFault::OutOfMemory) => None,
         found => Some(found == *one),
     }
 }
 
 /// A search of the jugs.
-fn pours<R: Threads + Sync + Abort>(rt: &R, alloc: Global, jobs: usize) -> Result<(), AllocError> {
-    let one = search(alloc, EMPTY, 100, 100, &mut Unwatched);
-    let spare = spare(alloc)?;
-    let scarce_memory = ScarceMemory::of_threads(rt, alloc)?;
-    at_last(
-        rt,
-        spare,
-        scarce_memory,
-        true,
-        || is_poured(rt, alloc, jobs, &one),
-    );
-    Ok(())
-}
-
-#[test]
-fn a_search_by_two_jobs(rt: HostRuntime) -> Result<(), Fail> {
-    pours(&rt, rt.alloc(), 2)?;
-    Ok(())
-}
-
-#[test]
-fn a_search_by_three_jobs(rt: HostRuntime) -> Result<(), Fail> {
-    pours(&rt, rt.alloc(), 3)?;
-    Ok(())
-}
-
-/// Two of the threads that they ask for can't be made.
-#[test]
-fn a_search_by_seven_jobs(rt: HostRuntime) -> Result<(), Fail> {
-    pours(&rt, rt.alloc(), 7)?;
-    Ok(())
-}
-
-/// Where no thread can be made, one does all the work.
-#[test]
-fn a_search_without_threads(rt: HostRuntime) -> Result<(), Fail> {
-    let alloc = rt.alloc();
-    let one = search(alloc, EMPTY, 100, 100, &mut Unwatched);
-    let spare = spare(alloc)?;
-    let scarce_memory = ScarceMemory::new(alloc)?;
-    at_last(
-        &rt,
-        spare,
-        scarce_memory,
-        false,
-        || is_poured(&rt, alloc, 3, &one),
-    );
-    Ok(())
-}
-
-/// A search of the lock by this many jobs; by one, where it is 0. These variables distinguish its states.
-fn explored<R: Threads + Sync>(
+fn pours<R: Threads + Sync + Abort>(
     rt: &R,
     alloc: Global,
+    name: &str,
     jobs: usize,
-    variables: Variables,
-) -> Result<SearchOutcome<Move>, ExploreFault> {
-    let layout = Layout {
-        procs: 1,
-        cap: 1,
-        width: 1,
-    };
-    let bounds = Bounds {
-        crashes: 1,
-        moves: 100,
-        states: 1_000,
-    };
-    let calls = [Call::Lock, Call::Unlock];
-    let calls = calls.as_slice();
-    let variant = Variant::ExitOnCrash;
-    let watch = &mut Unwatched;
-    if jobs == 0 {
-        return shortest_schedule(alloc, variant, layout, 1, calls, variables, &bounds, watch);
-    }
-    shortest_schedule_in_parallel(
-        rt, alloc, jobs, variant, layout, 1, calls, variables, &bounds, watch,
+    with_threads: bool,
+) -> Result<(), AllocError> {
+    let one = search(alloc, EMPTY, 100, 100, &mut Unwatched);
+    refuse_in_turn(
+        rt,
+        alloc,
+        name,
+        with_threads,
+        || is_poured(rt, alloc, jobs, &one),
     )
 }
 
-/// Whether it is the schedule by one. None: memory ran out.
+/// A search of the lock.
+const SIZES: Sizes = Sizes {
+    variant: Variant::ExitOnCrash,
+    layout: Layout {
+        procs: 1,
+        cap: 1,
+        width: 1,
+    },
+    limit: 1,
+    bounds: Bounds {
+        crashes: 1,
+        moves: 100,
+        states: 1_000,
+    },
+};
+
+const CALLS: [Call; 2] = [Call::Lock, Call::Unlock];
+
+/// Whether the schedule by three jobs is the schedule by one. None: memory ran out. These variables distinguish states.
 fn is_explored<R: Threads + Sync>(
     rt: &R,
     alloc: Global,
-    jobs: usize,
     variables: Variables,
     one: &Result<SearchOutcome<Move>, ExploreFault>,
 ) -> Option<bool> {
-    match explored(rt, alloc, jobs, variables) {
+    let found = shortest_schedule_in_parallel(
+        rt,
+        alloc,
+        3,
+        SIZES.variant,
+        SIZES.layout,
+        SIZES.limit,
+        &CALLS,
+        variables,
+        &SIZES.bounds,
+        &mut Unwatched,
+    );
+    match found {
         Err(ExploreFault::OutOfMemory) => None,
         found => Some(found == *one),
     }
 }
 
-/// A search of the lock by three jobs, with threads.
+/// A search of the lock by three jobs.
 fn explores<R: Threads + Sync + Abort>(
     rt: &R,
     alloc: Global,
+    name: &str,
     variables: Variables,
+    with_threads: bool,
 ) -> Result<(), AllocError> {
-    let one = explored(rt, alloc, 0, variables);
+    let one = SIZES.explore(alloc, &CALLS, variables);
     assert!(rt; one.is_ok());
-    let spare = spare(alloc)?;
-    let scarce_memory = ScarceMemory::of_threads(rt, alloc)?;
-    at_last(
+    refuse_in_turn(
         rt,
-        spare,
-        scarce_memory,
-        true,
-        || is_explored(rt, alloc, 3, variables, &one),
-    );
-    Ok(())
-}
-
-#[test]
-fn a_search_of_the_lock_by_three_jobs(rt: HostRuntime) -> Result<(), Fail> {
-    explores(&rt, rt.alloc(), Variables::All)?;
-    Ok(())
-}
-
-#[test]
-fn a_search_by_live_variables_by_three_jobs(rt: HostRuntime) -> Result<(), Fail> {
-    explores(&rt, rt.alloc(), Variables::Live)?;
-    Ok(())
-}
-
-/// A search of the lock by three jobs, where no thread can be made.
-fn explores_alone<R: Threads + Sync + Abort>(
-    rt: &R,
-    alloc: Global,
-    variables: Variables,
-) -> Result<(), AllocError> {
-    let one = explored(rt, alloc, 0, variables);
-    let spare = spare(alloc)?;
-    let scarce_memory = ScarceMemory::new(alloc)?;
-    at_last(
-        rt,
-        spare,
-        scarce_memory,
-        false,
-        || is_explored(rt, alloc, 3, variables, &one),
-    );
-    Ok(())
-}
-
-#[test]
-fn a_search_of_the_lock_without_threads(rt: HostRuntime) -> Result<(), Fail> {
-    explores_alone(&rt, rt.alloc(), Variables::All)?;
-    Ok(())
-}
-
-#[test]
-fn a_search_by_live_variables_without_threads(rt: HostRuntime) -> Result<(), Fail> {
-    explores_alone(&rt, rt.alloc(), Variables::Live)?;
-    Ok(())
+        alloc,
+        name,
+        with_threads,
+        || is_explored(rt, alloc, variables, &one),
+    )
 }
 
 const ROUNDS: u64 = 400;
@@ -278,50 +195,73 @@ fn text_of(
 fn is_hunted<R: Threads + Sync>(
     rt: &R,
     alloc: Global,
-    jobs: u64,
     one: &Result<Option<Vec<u8>>, HuntFault>,
 ) -> Option<bool> {
-    let found = hunt_in_parallel(rt, alloc, jobs, Variant::ExitOnCrash, 1, ROUNDS, STEPS);
+    let found = hunt_in_parallel(rt, alloc, 3, Variant::ExitOnCrash, 1, ROUNDS, STEPS);
     match text_of(alloc, found) {
         Err(HuntFault::OutOfMemory) => None,
         found => Some(found == *one),
     }
 }
 
-/// What a hunt by one finds.
-fn hunted(alloc: Global) -> Result<Option<Vec<u8>>, HuntFault> {
-    text_of(alloc, hunt(alloc, Variant::ExitOnCrash, 1, ROUNDS, STEPS))
+/// A hunt by three jobs.
+fn hunts<R: Threads + Sync + Abort>(
+    rt: &R,
+    alloc: Global,
+    name: &str,
+    with_threads: bool,
+) -> Result<(), AllocError> {
+    let one = text_of(alloc, hunt(alloc, Variant::ExitOnCrash, 1, ROUNDS, STEPS));
+    assert!(rt; matches!(&one, Ok(Some(_))));
+    refuse_in_turn(rt, alloc, name, with_threads, || is_hunted(rt, alloc, &one))
 }
 
+// A test for each row that makes threads: the C library keeps the stacks of threads that have ended, and what they free.
+
 #[test]
-fn a_hunt_by_three_jobs(rt: HostRuntime) -> Result<(), Fail> {
-    let alloc = rt.alloc();
-    let one = hunted(alloc);
-    assert!(rt; matches!(&one, Ok(Some(_))));
-    let spare = spare(alloc)?;
-    let scarce_memory = ScarceMemory::of_threads(&rt, alloc)?;
-    at_last(
-        &rt,
-        spare,
-        scarce_memory,
-        true,
-        || is_hunted(&rt, alloc, 3, &one),
-    );
+fn a_search_by_two_jobs(rt: HostRuntime) -> Result<(), Fail> {
+    pours(&rt, rt.alloc(), "two jobs", 2, true)?;
     Ok(())
 }
 
 #[test]
-fn a_hunt_without_threads(rt: HostRuntime) -> Result<(), Fail> {
+fn a_search_by_three_jobs(rt: HostRuntime) -> Result<(), Fail> {
+    pours(&rt, rt.alloc(), "three jobs", 3, true)?;
+    Ok(())
+}
+
+/// Two of the threads that they ask for can't be made.
+#[test]
+fn a_search_by_seven_jobs(rt: HostRuntime) -> Result<(), Fail> {
+    pours(&rt, rt.alloc(), "seven jobs", 7, true)?;
+    Ok(())
+}
+
+#[test]
+fn a_search_of_the_lock_by_three_jobs(rt: HostRuntime) -> Result<(), Fail> {
+    explores(&rt, rt.alloc(), "all variables", Variables::All, true)?;
+    Ok(())
+}
+
+#[test]
+fn a_search_by_live_variables_by_three_jobs(rt: HostRuntime) -> Result<(), Fail> {
+    explores(&rt, rt.alloc(), "live variables", Variables::Live, true)?;
+    Ok(())
+}
+
+#[test]
+fn a_hunt_by_three_jobs(rt: HostRuntime) -> Result<(), Fail> {
+    hunts(&rt, rt.alloc(), "a hunt", true)?;
+    Ok(())
+}
+
+/// Where no thread can be made, one does all the work.
+#[test]
+fn searches_and_a_hunt_without_threads(rt: HostRuntime) -> Result<(), Fail> {
     let alloc = rt.alloc();
-    let one = hunted(alloc);
-    let spare = spare(alloc)?;
-    let scarce_memory = ScarceMemory::new(alloc)?;
-    at_last(
-        &rt,
-        spare,
-        scarce_memory,
-        false,
-        || is_hunted(&rt, alloc, 3, &one),
-    );
+    pours(&rt, alloc, "jugs", 3, false)?;
+    explores(&rt, alloc, "all variables", Variables::All, false)?;
+    explores(&rt, alloc, "live variables", Variables::Live, false)?;
+    hunts(&rt, alloc, "a hunt", false)?;
     Ok(())
 }

@@ -1,11 +1,7 @@
 //! The line `crash all`: it is played as a crash of each process, by rising number.
 
-use crate::texts::everything::REPORT;
-use crate::texts::kit::{first_other, replays};
-use crashlab::Variant;
-
 /// The longest worked row, with one line for the crashes of its 64 processes.
-const EVERYTHING: &[u8] = b"rme 1 procs 64 limit 100 cap 1
+pub const EVERYTHING: &[u8] = b"rme 1 procs 64 limit 100 cap 1
 lock 0
 step 0 197
 lock 1
@@ -13,13 +9,10 @@ step 1 69
 crash all
 ";
 
-#[test]
-fn a_crash_of_all_is_a_crash_of_each(rt: HostRuntime) {
-    assert!(rt; replays(rt.alloc(), EVERYTHING, REPORT));
-}
-
 /// After a crash of all nobody has a step to take. The refused line counts a crash of all as one.
-const REFUSED: &str = "crash-all 5 7
+pub const REFUSED: &str = "\
+lock right
+crash-all 5 7
 rme 1 procs 2 limit 10 cap 1
 lock 0
 step 0 5
@@ -30,10 +23,3 @@ begin 0
 crash 0
 crash 1
 ";
-
-#[test]
-fn a_line_after_a_crash_of_all_is_refused(rt: HostRuntime) {
-    assert_eq!(rt; first_other(rt.alloc(), None, REFUSED), None);
-    let right = Some(Variant::Right);
-    assert_eq!(rt; first_other(rt.alloc(), right, REFUSED), None);
-}

@@ -90,15 +90,6 @@ impl Seen {
         Ok((Call::Append { seq, value }, case))
     }
 
-    /// The case of a crash.
-    fn crash(&self) -> u64 {
-        match self.position {
-            Position::AtRest | Position::Dead => CRASH_AT_REST,
-            Position::InACall => CRASH_IN_A_CALL,
-            Position::Inside => CRASH_INSIDE,
-        }
-    }
-
     /// Notes an answer.
     fn answered(&mut self, answer: Answer) {
         self.position = Position::Inside;
@@ -129,7 +120,11 @@ fn made(world: &mut VariantWorld, seen: &mut Seen, line: Line) -> Result<u64, Re
     match line {
         Line::Crash(p) => {
             world.crash(p)?;
-            let case = seen.crash();
+            let case = match seen.position {
+                Position::AtRest | Position::Dead => CRASH_AT_REST,
+                Position::InACall => CRASH_IN_A_CALL,
+                Position::Inside => CRASH_INSIDE,
+            };
             seen.position = Position::Dead;
             Ok(case)
         }
@@ -155,22 +150,17 @@ fn made(world: &mut VariantWorld, seen: &mut Seen, line: Line) -> Result<u64, Re
     }
 }
 
-/// The process of a line. None for a crash of all, which the rule never draws.
-fn process_of(line: Line) -> Option<u64> {
-    match line {
-        Line::Crash(p) => Some(p),
-        Line::Step(p, _) => Some(p),
-        Line::Start(p, _) => Some(p),
-        Line::CrashAll => None,
-    }
-}
-
-/// The cases of the rule in a schedule that was found. None: the rule does not ask for one of its moves.
+/// The cases of the rule in a schedule that was found. None: the rule does not ask for one of its moves. It never draws a crash of
+/// all.
 fn cases(world: &mut VariantWorld, found: &Schedule) -> Option<u64> {
     let mut seen = [UNSEEN; 3];
     let mut cases = 0;
     for line in found.lines() {
-        let here = seen.get_mut(process_of(*line)? as usize)?;
+        let p = match line {
+            Line::Crash(p) | Line::Step(p, _) | Line::Start(p, _) => *p,
+            Line::CrashAll => return None,
+        };
+        let here = seen.get_mut(p as usize)?;
         let case = made(world, here, *line).unwrap_or(0);
         if case == 0 {
             return None;

@@ -1,7 +1,5 @@
 //! The longest worked row: 64 processes, two of them waiting, and then each of them crashes.
 
-use crate::texts::kit::replays;
-
 pub const SCHEDULE: &[u8] = b"rme 1 procs 64 limit 100 cap 1
 lock 0
 step 0 197
@@ -210,8 +208,3 @@ words 63 0 0 0
 mail 0 closed 0 ruined 0
 verdict fine
 ";
-
-#[test]
-fn crash_of_everything(rt: HostRuntime) {
-    assert!(rt; replays(rt.alloc(), SCHEDULE, REPORT));
-}

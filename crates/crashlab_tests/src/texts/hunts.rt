@@ -1,39 +1,39 @@
-//! What the hunt finds, and what it refuses.
+//! What hunts find, how short it is minimized, and what they refuse.
 
 use crashlab::hunts::hunt;
-use crashlab::{HuntFault, Variant};
+use crashlab::{HuntFault, Variant, shrink_found};
 use std::alloc::Global;
 
-/// Whether a hunt of seed 1 finds the variant out.
-fn is_found_out(alloc: Global, variant: Variant, rounds: u64) -> Option<bool> {
+/// The most rounds of a hunt of seed 1, and the number of lines of its minimized schedule, which has some fifty to four hundred
+/// lines at first. 0: it finds nothing.
+const LINES: [(Variant, u64, usize); 7] = [
+    (Variant::NoLook, 10_000, 6),
+    (Variant::NoTies, 10_000, 11),
+    (Variant::Renumber, 10_000, 10),
+    (Variant::ExitOnCrash, 10_000, 5),
+    (Variant::CountUp, 10_000, 12),
+    (Variant::LastSkipped, 10_000, 19),
+    (Variant::Right, 100, 0),
+];
+
+/// The number of lines of the minimized schedule of a hunt of seed 1. 0: it finds nothing.
+fn least_lines_of_a_hunt(alloc: Global, variant: Variant, rounds: u64) -> Option<usize> {
     match hunt(alloc, variant, 1, rounds, 1_000) {
-        Ok(found) => Some(found.is_some()),
+        Ok(Some(found)) => match shrink_found(alloc, variant, &found) {
+            Ok(least) => Some(least.lines().len()),
+            Err(_) => None,
+        },
+        Ok(None) => Some(0),
         Err(_) => None,
     }
 }
 
 #[test]
-fn each_wrong_variant_is_found_out(rt: HostRuntime) {
-    for variant in [
-        Variant::NoLook,
-        Variant::NoTies,
-        Variant::Renumber,
-        Variant::ExitOnCrash,
-        Variant::CountUp,
-        Variant::LastSkipped,
-    ] {
-        let found = is_found_out(rt.alloc(), variant, 10_000);
-        assert!(rt; found == Some(true), "{variant:?}");
+fn hunts_of_seed_1(rt: HostRuntime) {
+    for (variant, rounds, lines) in LINES {
+        let least = least_lines_of_a_hunt(rt.alloc(), variant, rounds);
+        assert!(rt; least == Some(lines), "{variant:?}");
     }
-}
-
-#[test]
-fn the_lock_is_not_found_out(rt: HostRuntime) {
-    assert!(rt; is_found_out(rt.alloc(), Variant::Right, 100) == Some(false));
-}
-
-#[test]
-fn a_hunt_is_refused_by_its_size(rt: HostRuntime) {
     for (rounds, steps, fault) in [
         (0, 1, HuntFault::BadRounds),
         (10_001, 0, HuntFault::BadRounds),

@@ -1,8 +1,8 @@
 //! The worked rows of the lock: schedules and their reports.
 
-use crate::texts::kit::first_other;
-
-const ROWS: &str = "smallest
+pub const ROWS: &str = "\
+lock
+smallest
 rme 1 procs 1 limit 10 cap 1
 lock 0
 step 0 8
@@ -292,8 +292,3 @@ words 1 0 1 0
 mail 0 closed 0 ruined 0
 verdict fine
 ";
-
-#[test]
-fn lock_rows(rt: HostRuntime) {
-    assert_eq!(rt; first_other(rt.alloc(), None, ROWS), None);
-}

@@ -1,8 +1,8 @@
 //! The worked rows of the mailbox: schedules and their reports.
 
-use crate::texts::kit::first_other;
-
-const ROWS: &str = "torn-before-the-commit
+pub const ROWS: &str = "\
+lock
+torn-before-the-commit
 rme 1 procs 1 limit 10 cap 2
 lock 0
 step 0 8
@@ -232,8 +232,3 @@ words 0 0 1 1
 mail 0 closed 0 ruined 0
 verdict fine
 ";
-
-#[test]
-fn mailbox_rows(rt: HostRuntime) {
-    assert_eq!(rt; first_other(rt.alloc(), None, ROWS), None);
-}

@@ -1,11 +1,10 @@
 //! Worked rows that a world refuses: the line, the number, and what was written before.
 
-use crate::texts::kit::first_other;
-use crashlab::Variant;
-
 /// Each kind of line: a lock of a process that is inside, and of one whose lock is under way, a step of a process without a
 /// call, a crash of a process that does not exist.
-const KINDS: &str = "already-in 4 6
+pub const KINDS: &str = "\
+lock right no-look no-ties renumber exit-on-crash count-up last-skipped
+already-in 4 6
 rme 1 procs 2 limit 10 cap 1
 lock 0
 step 0 11
@@ -33,23 +32,9 @@ crash 5
 --
 ";
 
-#[test]
-fn refusals_of_each_kind_of_line(rt: HostRuntime) {
-    for variant in [
-        None,
-        Some(Variant::Right),
-        Some(Variant::NoLook),
-        Some(Variant::NoTies),
-        Some(Variant::Renumber),
-        Some(Variant::ExitOnCrash),
-        Some(Variant::CountUp),
-        Some(Variant::LastSkipped),
-    ] {
-        assert_eq!(rt; first_other(rt.alloc(), variant, KINDS), None);
-    }
-}
-
-const ROWS: &str = "sizes 1 2
+pub const ROWS: &str = "\
+lock
+sizes 1 2
 rme 1 procs 1 limit 0 cap 1
 lock 0
 --
@@ -151,8 +136,3 @@ hostile-lines 1 1
 rme 1 procs 65 limit 10 cap 1
 --
 ";
-
-#[test]
-fn refusals(rt: HostRuntime) {
-    assert_eq!(rt; first_other(rt.alloc(), None, ROWS), None);
-}

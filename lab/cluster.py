@@ -8,7 +8,7 @@ from contextlib import contextmanager
 from dask.distributed import Client, LocalCluster
 
 # The modules that a worker needs.
-MODULES = ("state_filter.py", "cluster_tasks.py")
+MODULES = ("state_filter.py", "fingerprints.py", "cluster_tasks.py")
 
 
 def add_options(parser: argparse.ArgumentParser) -> None:

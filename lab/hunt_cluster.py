@@ -1,4 +1,4 @@
-#!/usr/bin/env python3
+#!/usr/bin/python3
 """A hunt as shards of rounds over Dask distributed. The least round that finds a schedule wins, so the answer is that of one machine.
 
 hunt_cluster.py [--scheduler ADDRESS | --local N] [--rmelab PROGRAM] --rounds R [--shard S] -- WORDS..

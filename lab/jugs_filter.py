@@ -1,4 +1,4 @@
-#!/usr/bin/env python3
+#!/usr/bin/python3 -IS
 """A small program for the tests of the drivers, with the tools of `rmelab states`: a jug of 3 litres and one of 5. What goes wrong is
 to have WANTED litres in the big one.
 

@@ -4,20 +4,26 @@ import contextlib
 import hashlib
 import io
 import os
+import signal
+import subprocess
+import sys
+import tempfile
 import unittest
 from collections.abc import Callable
 from unittest import mock
 
 try:
-    import zstandard  # noqa: F401
+    import numpy
     from dask.distributed import Client, LocalCluster
 
+    import cluster
     import cluster_tasks
     import explore_cluster
     import hunt_cluster
-    from state_filter import Ended, StateFilter
+    from fingerprints import fingerprints, part_of, rows_of
+    from state_filter import Ended, StateFilter, pack, states_of, unpack
 except ImportError:
-    raise unittest.SkipTest("Dask or zstandard is not installed") from None
+    raise unittest.SkipTest("Dask or numpy is not installed") from None
 
 HERE = os.path.dirname(os.path.abspath(__file__))
 FILTER = os.path.join(HERE, "jugs_filter.py")
@@ -33,7 +39,7 @@ class Clusters(unittest.TestCase):
     def setUpClass(cls) -> None:
         cls.cluster = LocalCluster(n_workers=2, threads_per_worker=1, dashboard_address=None)
         cls.client = Client(cls.cluster)
-        for module in ("state_filter.py", "cluster_tasks.py"):
+        for module in cluster.MODULES:
             cls.client.upload_file(os.path.join(HERE, module))
 
     @classmethod
@@ -63,26 +69,35 @@ class Clusters(unittest.TestCase):
     def test_a_first_move_that_goes_wrong(self) -> None:
         self.assertEqual(self.search("5")[:2], (1, "fill big\n"))
 
-    def test_a_lost_worker(self) -> None:
-        """A worker that is lost at each third level changes nothing."""
+    def test_small_blocks(self) -> None:
+        """A level as many blocks, of which some are joined, has the same states."""
+        with mock.patch.object(explore_cluster, "FEWEST", 1), mock.patch.object(explore_cluster, "MOST", 2):
+            self.assertEqual(self.search("9")[:2], ALL)
+            self.assertEqual(self.search("4")[:2], (1, FOUR_LITRES))
+
+    def test_a_killed_worker(self) -> None:
+        """A worker that is killed in a level changes nothing, with one copy of all, and with two."""
         advance = explore_cluster.Search.advance
 
-        def loses(search: explore_cluster.Search) -> list[bytes]:
-            if len(search.sizes) % 3 == 0:
-                worker = next(iter(self.client.scheduler_info()["workers"]))
-                self.client.restart_workers([worker])
+        def loses(search: explore_cluster.Search) -> bytes:
+            if len(search.levels) == 5:
+                process = next(iter(self.client.run(os.getpid).values()))
+                os.kill(process, signal.SIGKILL)
             return advance(search)
 
         with mock.patch.object(explore_cluster.Search, "advance", loses):
+            self.assertEqual(self.search("9")[:2], ALL)
             self.assertEqual(self.search("9", "--replicas", "2")[:2], ALL)
 
     def test_a_lost_state(self) -> None:
         """An engine that loses a state, wherever it comes, is found out by the certificate."""
+        states = StateFilter(FILTER, ("--wanted", "9"))
+        lost = fingerprints(rows_of(b"35\n", 3), 0)
 
-        def loses(runs: list[bytes], blocks: list[bytes]) -> tuple[int, bytes]:
-            kept = [cluster_tasks.unpack(block).replace(b"35\n", b"") for block in blocks]
-            return cluster_tasks.fresh(runs, [cluster_tasks.pack(lines) for lines in kept])
+        def loses(part: int, parts: int, runs: list[cluster_tasks.Numbers], reports: list[cluster_tasks.Report]) -> cluster_tasks.Fresh:
+            return cluster_tasks.fresh(part, parts, [*runs, lost], reports)
 
+        self.assertEqual(states.first()[1], b"00\n")
         with mock.patch.object(explore_cluster, "fresh", loses):
             status, out, err = self.search("9")
         self.assertEqual((status, out), (3, ""))
@@ -93,11 +108,10 @@ class Clusters(unittest.TestCase):
         certify = explore_cluster.Search.certify
 
         def certifies(search: explore_cluster.Search) -> None:
-            for runs in search.runs:
-                for at, run in enumerate(runs):
-                    lines = cluster_tasks.unpack(run.block.result())
-                    [block] = self.client.scatter([cluster_tasks.pack(spoil(lines))])
-                    runs[at] = explore_cluster.Run(block, run.states)
+            for level in search.levels:
+                for at, block in enumerate(level):
+                    [spoilt] = self.client.scatter([pack(spoil(unpack(block.future.result())))])
+                    level[at] = explore_cluster.Sized(spoilt, block.size)
             certify(search)
 
         with mock.patch.object(explore_cluster.Search, "certify", certifies):
@@ -120,11 +134,11 @@ class Clusters(unittest.TestCase):
     def test_the_certificate_of_a_damaged_line(self) -> None:
         self.refuses(b"35\n", b"~~\n", "fault 2")
 
-    def test_the_certificate_of_a_lost_run(self) -> None:
+    def test_the_certificate_of_a_lost_block(self) -> None:
         certify = explore_cluster.Search.certify
 
         def loses(search: explore_cluster.Search) -> None:
-            next(runs for runs in search.runs if runs).pop()
+            search.levels[4].pop()
             certify(search)
 
         with mock.patch.object(explore_cluster.Search, "certify", loses):
@@ -134,11 +148,9 @@ class Clusters(unittest.TestCase):
 
     def test_parts_of_different_sets(self) -> None:
         """Parts of a certificate that are of different sets are found out, also where each of these is closed."""
-        unpack = cluster_tasks.unpack
 
-        def checks(states: StateFilter, header: bytes, part: int, parts: int, blocks: list[bytes]) -> tuple[int, str]:
-            swapped = [b"".join(sorted(cluster_tasks.lines_of(unpack(block)), reverse=part == 1)) for block in blocks]
-            return cluster_tasks.check(states, header, part, parts, [cluster_tasks.pack(lines) for lines in swapped])
+        def checks(states: StateFilter, header: bytes, part: int, parts: int, blocks: list[bytes]) -> str:
+            return cluster_tasks.check(states, header, part, parts, blocks[::-1] if part == 1 else blocks)
 
         with mock.patch.object(explore_cluster, "check", checks):
             status, out, err = self.search("9", "--checks", "2")
@@ -160,51 +172,79 @@ class Clusters(unittest.TestCase):
         out.buffer.write.assert_called_once_with(b"round 42\n")
 
 
+class Schedulers(unittest.TestCase):
+    """A scheduler of its own, which the test ends."""
+
+    def begin(self, *words: str) -> subprocess.Popen[str]:
+        process = subprocess.Popen([sys.executable, *words], stderr=subprocess.PIPE, stdout=subprocess.PIPE, text=True)
+        self.addCleanup(process.communicate)
+        self.addCleanup(process.kill)
+        return process
+
+    def test_a_restarted_scheduler(self) -> None:
+        """A scheduler that is killed in a search, and begun again at the same place, gives the same answer or an error's name."""
+        with tempfile.TemporaryDirectory() as folder:
+            port = "38786"
+            scheduler = ["-m", "distributed.cli.dask_scheduler", "--host", "127.0.0.1", "--port", port, "--no-dashboard"]
+            first = self.begin(*scheduler)
+            where = f"tcp://127.0.0.1:{port}"
+            self.begin("-m", "distributed.cli.dask_worker", where, "--nthreads", "1", "--no-dashboard", "--local-directory", folder)
+            search = self.begin(os.path.join(HERE, "explore_cluster.py"), "--scheduler", where, "--rmelab", FILTER, "--", "--wanted", "9")
+            assert search.stderr and search.stdout
+            while not search.stderr.readline().startswith("level 3 "):
+                pass
+            first.kill()
+            first.wait()
+            self.begin(*scheduler)
+            out, err = search.communicate(timeout=300)
+        self.assertIn((search.returncode, out), [ALL, (3, "")])
+        if search.returncode:
+            self.assertIn("the cluster was lost", err)
+
+
 class Tasks(unittest.TestCase):
     """What a worker does, without a cluster."""
 
-    def test_parts_share_out_all_successors(self) -> None:
-        states = StateFilter(FILTER, ("--wanted", "9"))
-        header, first = states.first()
-        many, owned, wrong = cluster_tasks.expand(states, header, 3, cluster_tasks.pack(first))
-        lines = sorted(line for block in owned for line in cluster_tasks.lines_of(cluster_tasks.unpack(block)))
-        self.assertEqual((many, lines, wrong), (1, [b"00\n", b"05\n", b"30\n"], b""))
+    def setUp(self) -> None:
+        self.states = StateFilter(FILTER, ("--wanted", "9"))
+        self.header, _ = self.states.first()
 
-    def test_great_blocks_are_merged_as_small_ones(self) -> None:
-        blocks = [cluster_tasks.pack(text) for text in (b"00\n05\n", b"05\n30\n")]
-        small = cluster_tasks.merge(blocks), cluster_tasks.fresh(blocks[:1], blocks)
-        with mock.patch.object(cluster_tasks, "SMALL", 0):
-            great = cluster_tasks.merge(blocks), cluster_tasks.fresh(blocks[:1], blocks)
-        self.assertEqual(great, small)
-        self.assertEqual(cluster_tasks.unpack(small[0]), b"00\n05\n30\n")
-        self.assertEqual(small[1], (1, cluster_tasks.pack(b"30\n")))
+    def test_parts_share_out_all_numbers(self) -> None:
+        numbers = numpy.array([0, 1, (1 << 63) - 1, 1 << 63, (1 << 64) - 1], numpy.uint64)
+        for parts in (1, 2, 3, 7):
+            shares = [numbers[part_of(numbers, part, parts)] for part in range(parts)]
+            self.assertEqual(numpy.concatenate(shares).tolist(), numbers.tolist())
+            for part, share in enumerate(shares):
+                self.assertTrue(all(int(number) * parts >> 64 == part for number in share))
 
-    def test_a_full_disk(self) -> None:
-        with mock.patch.object(cluster_tasks.tempfile, "mkdtemp", side_effect=OSError(28, "No space left on device")):
-            with self.assertRaises(OSError):
-                cluster_tasks.expand(StateFilter(FILTER, ("--wanted", "9")), b"", 1, cluster_tasks.pack(b"00\n"))
-
-    def test_a_full_disk_at_the_certificate(self) -> None:
-        states = StateFilter(FILTER, ("--wanted", "9"))
-        header, first = states.first()
-        with mock.patch.object(cluster_tasks, "write_files", side_effect=OSError(28, "No space left on device")):
-            with self.assertRaises(OSError):
-                cluster_tasks.check(states, header, 0, 1, [cluster_tasks.pack(first)])
+    def test_new_states(self) -> None:
+        """Of two blocks' successors those that no run has, each once, in the first block that has it."""
+        blocks = [b"00\n", b"05\n30\n"]
+        expanded = [cluster_tasks.expand(self.states, self.header, 0, [pack(text)]) for text in blocks]
+        reports = [cluster_tasks.report(one) for one in expanded]
+        for parts in (1, 3):
+            run = fingerprints(rows_of(b"00\n", 3), 0)
+            made = [cluster_tasks.fresh(part, parts, [run], reports) for part in range(parts)]
+            new = [unpack(cluster_tasks.choose(one, at, made, slice(None))) for at, one in enumerate(expanded)]
+            self.assertEqual(new, [b"30\n05\n", b"35\n32\n03\n"])
+            self.assertEqual(unpack(cluster_tasks.choose(expanded[1], 1, made, slice(1, 2))), b"32\n")
+            grown = cluster_tasks.grow([run], made[-1])
+            self.assertEqual(len(grown), 1 + len(made[-1][0]))
+            counted, wrong, sizes, _ = cluster_tasks.count(reports, made)
+            self.assertEqual((counted, wrong, sizes), (3, False, [2, 3]))
+            self.assertEqual(sum(len(numbers) for numbers, _ in made), 5)
 
     def test_a_check_of_one_part(self) -> None:
         """The first state alone is open, but not in the part to which no move of its leads."""
-        states = StateFilter(FILTER, ("--wanted", "9"))
-        header, first = states.first()
-        blocks = [cluster_tasks.pack(first), b""]
-        self.assertEqual(cluster_tasks.check(states, header, 1, 4, blocks), (1, hashlib.sha256(header + first).hexdigest()))
+        text = self.header + b"00\n"
+        said = cluster_tasks.check(self.states, self.header, 1, 4, [pack(b"00\n"), b""])
+        self.assertEqual(states_of(said, 1, 4), (1, hashlib.sha256(text).hexdigest()))
         with self.assertRaises(Ended):
-            cluster_tasks.check(states, header, 0, 4, blocks)
+            states_of(cluster_tasks.check(self.states, self.header, 0, 4, [pack(b"00\n")]), 0, 4)
 
     def test_a_damaged_block(self) -> None:
-        states = StateFilter(FILTER, ("--wanted", "9"))
-        header, _ = states.first()
-        with self.assertRaises(RuntimeError):
-            cluster_tasks.expand(states, header, 1, cluster_tasks.pack(b"~~\n"))
+        with self.assertRaises(Ended):
+            cluster_tasks.expand(self.states, self.header, 0, [pack(b"~~\n")])
 
     def test_refused_words(self) -> None:
         with self.assertRaises(Ended):

@@ -3,37 +3,44 @@
 import contextlib
 import io
 import os
+import resource
 import shutil
+import signal
+import subprocess
+import sys
 import tempfile
 import unittest
-from collections.abc import Callable
+from collections.abc import Callable, Iterable, Iterator
 from unittest import mock
 
-import explore_sorted
-from state_filter import Ended, with_whole_paths
+try:
+    import numpy
 
-FILTER = os.path.join(os.path.dirname(os.path.abspath(__file__)), "jugs_filter.py")
+    import explore_sorted
+    import fingerprints
+    import state_filter
+    from state_filter import Ended, pack, unpack, with_whole_paths
+except ImportError:
+    raise unittest.SkipTest("numpy is not installed") from None
+
+HERE = os.path.dirname(os.path.abspath(__file__))
+FILTER = os.path.join(HERE, "jugs_filter.py")
 STATES = 16  # Of two jugs of 3 and 5 litres one is empty or full: 2 * 4 + 2 * 6 - 4.
 ALL = (0, f"nothing found: all {STATES} states\n")
 FOUR_LITRES = "fill big\nbig to small\nempty small\nbig to small\nfill big\nbig to small\n"
-
+LEVEL = explore_sorted.name_of
 
 Spoil = Callable[[explore_sorted.Search], None]
 
 
-def read(path: str) -> str:
-    with open(path, encoding="ascii") as file:
-        return file.read()
-
-
-def change(search: explore_sorted.Search, old: str, new: str) -> None:
-    """Changes the first line that ends so in the runs of a search."""
-    for run in search.progress.runs:
-        text = read(search.folder.at(run.name))
+def change(search: explore_sorted.Search, old: bytes, new: bytes) -> None:
+    """Changes the first line that ends so in the levels of a search."""
+    for depth in range(len(search.levels)):
+        text = unpack(search.folder.read(LEVEL(depth)))
         if old in text:
-            search.folder.write(run.name, text.replace(old, new, 1).encode())
+            search.folder.write(LEVEL(depth), [pack(text.replace(old, new, 1))])
             return
-    raise AssertionError(f"no run has {old!r}")
+    raise AssertionError(f"no level has {old!r}")
 
 
 class Searches(unittest.TestCase):
@@ -45,9 +52,17 @@ class Searches(unittest.TestCase):
         """The exit status, and what is printed."""
         out, err = io.StringIO(), io.StringIO()
         with contextlib.redirect_stdout(out), contextlib.redirect_stderr(err):
-            places = ["--rmelab", FILTER, "--folder", folder or self.folder, "--memory", "8M"]
+            places = ["--rmelab", FILTER, "--folder", folder or self.folder]
             status = explore_sorted.main([*places, *options, "--", "--wanted", wanted])
         return status, out.getvalue(), err.getvalue()
+
+    def fails(self, reason: str, *options: str) -> None:
+        status, out, err = self.search("9", *options)
+        self.assertEqual((status, out), (3, ""))
+        self.assertIn(reason, err)
+
+    def at(self, name: str) -> str:
+        return os.path.join(self.folder, name)
 
     def test_all_states(self) -> None:
         status, out, err = self.search("9")
@@ -61,22 +76,20 @@ class Searches(unittest.TestCase):
     def test_a_first_move_that_goes_wrong(self) -> None:
         self.assertEqual(self.search("5")[:2], (1, "fill big\n"))
 
-    def test_compressed(self) -> None:
-        if shutil.which("zstd") is None:
-            self.skipTest("no zstd")
-        self.assertEqual(self.search("9", "--compress")[:2], ALL)
-        kept = [name for name in os.listdir(self.folder) if name.startswith(("seen", "level"))]
-        self.assertTrue(all(name.endswith(".zst") for name in kept))
+    def test_small_blocks_side_by_side(self) -> None:
+        with mock.patch.object(explore_sorted, "BLOCK", 1):
+            self.assertEqual(self.search("9", "--parallel", "3")[:2], ALL)
+            self.assertEqual(self.search("4", "--parallel", "3", folder=self.at("4"))[:2], (1, FOUR_LITRES))
 
-    def test_compressed_schedule(self) -> None:
-        if shutil.which("zstd") is None:
-            self.skipTest("no zstd")
-        self.assertEqual(self.search("4", "--compress")[:2], (1, FOUR_LITRES))
+    def test_without_zstd(self) -> None:
+        with mock.patch.object(state_filter, "zstandard", None):
+            self.assertEqual(self.search("9")[:2], ALL)
+            with open(self.at(LEVEL(0)), "rb") as file:
+                self.assertEqual(file.read(2), b"\x1f\x8b")
 
     def test_parts(self) -> None:
         status, _, err = self.search("9", "--parts", "3", "--parallel", "2")
-        self.assertEqual(status, 0)
-        self.assertEqual(err.count("closed:"), 3)
+        self.assertEqual((status, err.count("closed:")), (0, 3))
 
     def test_refused_words(self) -> None:
         status, out, err = self.search("many")
@@ -87,77 +100,115 @@ class Searches(unittest.TestCase):
         self.search("9")
         self.assertEqual(self.search("4"), (2, "", "another search is in this folder\n"))
 
+    def stop_at(self, level: int, folder: str | None = None) -> None:
+        """Searches up to the expansion of a level."""
+        successors = explore_sorted.Search.successors
+
+        def stopped(search: explore_sorted.Search) -> Iterator[bytes]:
+            yield from successors(search)
+            if len(search.levels) - 1 == level:
+                raise Ended("stopped")
+
+        with mock.patch.object(explore_sorted.Search, "successors", stopped):
+            self.assertEqual(self.search("9", folder=folder)[0], 3)
+
     def test_goes_on(self) -> None:
-        """Stopped before each level, also in the midst of a line of the ledger, it goes on to the same answer."""
-        advance = explore_sorted.Search.advance
+        """Stopped in each level, also in the midst of a line of the ledger, it goes on to the same answer."""
         for stop in range(8):
-            folder = os.path.join(self.folder, str(stop))
-
-            def stopped(search: explore_sorted.Search) -> None:
-                if search.progress.level == stop:
-                    raise Ended("stopped")
-                advance(search)
-
-            with mock.patch.object(explore_sorted.Search, "advance", stopped):
-                self.assertEqual(self.search("9", folder=folder)[0], 3)
+            folder = self.at(str(stop))
+            self.stop_at(stop, folder)
             with open(os.path.join(folder, "ledger"), "a", encoding="ascii") as ledger:
-                ledger.write('{"level": 1')
+                ledger.write('{"states": 1')
             self.assertEqual(self.search("9", folder=folder)[:2], ALL)
 
-    def stop_at(self, level: int) -> None:
-        """Searches up to a level."""
-        expand = explore_sorted.Search.expand
+    def test_a_killed_search_goes_on(self) -> None:
+        command = [sys.executable, os.path.join(HERE, "explore_sorted.py"), "--folder", self.folder, "--rmelab", FILTER]
+        with subprocess.Popen([*command, "--", "--wanted", "9"], stdout=subprocess.PIPE, stderr=subprocess.PIPE, text=True) as process:
+            assert process.stderr
+            while not process.stderr.readline().startswith("level 3 "):
+                pass
+            process.kill()
+        self.assertEqual(self.search("9")[:2], ALL)
 
-        def stopped(search: explore_sorted.Search) -> bool:
-            if search.progress.level == level:
-                raise Ended("stopped")
-            return expand(search)
+    def test_a_killed_filter(self) -> None:
+        """Each run of the filter that is killed ends the search by its name; begun anew it goes on."""
+        run = subprocess.Popen
+        runs = 0
 
-        with mock.patch.object(explore_sorted.Search, "expand", stopped):
-            self.assertEqual(self.search("9")[0], 3)
+        def dies(*arguments: object, **named: object) -> subprocess.Popen[bytes]:
+            nonlocal runs
+            runs += 1
+            process = run(*arguments, **named)  # type: ignore[call-overload]
+            if runs == 4:
+                process.send_signal(signal.SIGKILL)
+            return process
 
-    def change_last_line(self, name: str, new: str) -> None:
-        path = os.path.join(self.folder, name)
-        lines = read(path).splitlines(keepends=True)
-        with open(path, "w", encoding="ascii") as file:
-            file.write("".join(lines[:-1]) + new)
+        with mock.patch.object(state_filter.subprocess, "Popen", dies):
+            self.fails("status -9 of expand")
+        self.assertEqual(self.search("9")[:2], ALL)
 
-    def test_a_lost_state(self) -> None:
+    def test_a_lost_line(self) -> None:
         """A level that has lost a line is found out, not taken for a smaller search."""
-        self.stop_at(2)
-        self.change_last_line("level.2", "")
-        status, out, err = self.search("9")
-        self.assertEqual((status, out), (3, ""))
-        self.assertIn("level.2 has", err)
+        for digest in (True, False):
+            self.spoil_stopped(lambda text: text[:-3], "level.2", digest)
 
     def test_a_damaged_line(self) -> None:
+        self.spoil_stopped(lambda text: text[:-3] + b"~~\n", "is not the file that was written", True)
+        self.spoil_stopped(lambda text: text[:-3] + b"~~\n", "fault 2", False)
+        self.spoil_stopped(lambda text: text[:-1], "a line is cut off", False)
+
+    def spoil_stopped(self, spoil: Callable[[bytes], bytes], reason: str, digest: bool) -> None:
+        """A level's lines are spoiled while the search is stopped: with digests, and where these are made to agree."""
+        shutil.rmtree(self.folder)
+        os.makedirs(self.folder)
         self.stop_at(2)
-        self.change_last_line("level.2", "~~\n")
-        status, out, err = self.search("9")
-        self.assertEqual((status, out), (3, ""))
-        self.assertIn("fault 2", err)
+        with open(self.at(LEVEL(2)), "rb") as file:
+            text = spoil(unpack(file.read()))
+        with open(self.at(LEVEL(2)), "wb") as file:
+            file.write(pack(text))
+        patched = mock.patch.object(explore_sorted.Folder, "digest", lambda folder, name: level_digest(self.folder, name))
+        with contextlib.nullcontext() if digest else patched:
+            self.fails(reason)
 
-    def test_a_lost_run(self) -> None:
+    def test_a_damaged_file(self) -> None:
         self.stop_at(3)
-        for name in os.listdir(self.folder):
-            if name.startswith("seen"):
-                os.remove(os.path.join(self.folder, name))
-        self.assertEqual(self.search("9")[:2], (3, ""))
+        path = self.at(LEVEL(2))
+        with open(path, "rb") as file:
+            packed = file.read()
+        for spoiled in (packed[:-5], packed[:-1] + bytes([packed[-1] ^ 1]), b""):
+            with open(path, "wb") as file:
+                file.write(spoiled)
+            self.fails(f"{LEVEL(2)} is not the file that was written")
+        with open(path, "wb") as file:
+            file.write(packed)
+        self.assertEqual(self.search("9")[:2], ALL)
 
-    def test_the_certificate_refuses(self) -> None:
-        """An engine that loses a state, wherever it comes, and says so nowhere is found out by the certificate."""
-        advance = explore_sorted.Search.advance
+    def test_a_lost_level(self) -> None:
+        self.stop_at(3)
+        os.remove(self.at(LEVEL(1)))
+        self.fails("No such file")
 
-        def loses(search: explore_sorted.Search) -> None:
-            with open(search.folder.at("candidates"), encoding="ascii") as file:
-                lines = [line for line in file if line != "35\n"]
-            search.folder.write("candidates", "".join(lines).encode())
-            advance(search)
+    def test_swapped_levels(self) -> None:
+        self.stop_at(4)
+        os.rename(self.at(LEVEL(2)), self.at("other"))
+        os.rename(self.at(LEVEL(3)), self.at(LEVEL(2)))
+        os.rename(self.at("other"), self.at(LEVEL(3)))
+        self.fails(f"{LEVEL(2)} is not the file that was written")
 
-        with mock.patch.object(explore_sorted.Search, "advance", loses):
-            status, out, err = self.search("9")
-        self.assertEqual((status, out), (3, ""))
-        self.assertIn("the certificate is refused: open: state", err)
+    def test_two_states_with_one_fingerprint(self) -> None:
+        """One of them is lost, and the certificate finds it out. Other fingerprints find all."""
+        numbers = explore_sorted.fingerprints
+
+        def alike(rows: fingerprints.Rows, salt: int) -> fingerprints.Numbers:
+            found = numbers(rows, salt)
+            if salt == 0:
+                found[(rows[:, :2] == numpy.frombuffer(b"32", numpy.uint8)).all(axis=1)] = 7
+                found[(rows[:, :2] == numpy.frombuffer(b"04", numpy.uint8)).all(axis=1)] = 7
+            return found
+
+        with mock.patch.object(fingerprints, "fingerprints", alike), mock.patch.object(explore_sorted, "fingerprints", alike):
+            self.fails("the certificate is refused: open: state")
+            self.assertEqual(self.search("9", "--salt", "1", folder=self.at("1"))[:2], ALL)
 
     def spoiled(self, spoil: Spoil, *options: str) -> tuple[int, str, str]:
         """A search that finds all states, in whose folder something is spoiled before they are checked."""
@@ -175,91 +226,125 @@ class Searches(unittest.TestCase):
         status, out, err = self.spoiled(spoil, *options)
         self.assertEqual((status, out), (3, ""))
         self.assertIn(reason, err)
+        shutil.rmtree(self.folder)
+        os.makedirs(self.folder)
 
-    def test_the_certificate_of_a_lost_state(self) -> None:
-        self.refuses(lambda search: change(search, "35\n", ""), "the certificate is refused: open: state")
+    def test_the_certificate(self) -> None:
+        """What is lost or changed before the certificate is refused by it, whole and in parts."""
+        refused = "the certificate is refused: open: state"
+        for options in ((), ("--parts", "3")):
+            self.refuses(lambda search: change(search, b"35\n", b""), refused, *options)
+            self.refuses(lambda search: change(search, b"35\n", b"11\n"), refused, *options)
+            self.refuses(lambda search: change(search, b"00\n", b""), "open: the first state is not in the set", *options)
+            self.refuses(lambda search: change(search, b"35\n", b"~~\n"), "fault 2", *options)
+            twice = f"the certificate is of {STATES + 1} states, not {STATES}"
+            self.refuses(lambda search: change(search, b"35\n", b"35\n35\n"), twice, *options)
 
-    def test_the_certificate_of_a_lost_state_in_parts(self) -> None:
-        self.refuses(lambda search: change(search, "35\n", ""), "the certificate is refused: open: state", "--parts", "3")
-
-    def test_the_certificate_of_a_lost_first_state(self) -> None:
-        self.refuses(lambda search: change(search, "00\n", ""), "open: the first state is not in the set")
-
-    def test_the_certificate_of_another_state(self) -> None:
-        self.refuses(lambda search: change(search, "35\n", "11\n"), "the certificate is refused: open: state")
-
-    def test_the_certificate_of_a_damaged_line(self) -> None:
-        self.refuses(lambda search: change(search, "35\n", "~~\n"), "fault 2")
-
-    def test_the_certificate_of_a_lost_run(self) -> None:
-        self.refuses(lambda search: os.remove(search.folder.at(search.progress.runs[-1].name)), "No such file")
-
-    def test_the_certificate_of_another_search(self) -> None:
-        self.refuses(lambda search: change(search, "wanted 9\n", "wanted 8\n"), "fault")
-
-    def test_a_full_disk_at_the_certificate(self) -> None:
-        self.refuses(lambda search: os.symlink("/dev/full", search.folder.at("all.part")), "No space left on device")
+    def test_the_certificate_of_lost_levels(self) -> None:
+        self.refuses(lambda search: os.remove(search.folder.at(LEVEL(3))), "No such file")
+        self.refuses(lambda search: os.truncate(search.folder.at(LEVEL(3)), 9), "")
+        self.refuses(lambda search: shutil.copy(search.folder.at(LEVEL(4)), search.folder.at(LEVEL(3))), "open: state")
 
     def test_the_certificate_goes_on(self) -> None:
-        """Stopped before the last part, it goes on with that. It begins again where the set has changed."""
+        """Stopped before the last part, it goes on with that. What was said of another text is asked again."""
         check = explore_sorted.Search.check_part
 
-        def stopped(search: explore_sorted.Search, part: int, digest: str) -> tuple[int, str]:
+        def stopped(search: explore_sorted.Search, part: int) -> tuple[int, str]:
             if part == 2:
                 raise Ended("stopped")
-            return check(search, part, digest)
+            return check(search, part)
 
         with mock.patch.object(explore_sorted.Search, "check_part", stopped):
             self.assertEqual(self.search("9", "--parts", "3")[0], 3)
         status, _, err = self.search("9", "--parts", "3")
         self.assertEqual((status, err.count("closed:")), (0, 1))
-        self.refuses(lambda search: change(search, "35\n", ""), "the certificate is refused: open: state", "--parts", "3")
-
-    def with_all(self, spoil: Callable[[str], str], part: int) -> Spoil:
-        """Changes the lines of all states before this part of them is checked."""
-        check = explore_sorted.Search.check_part
-
-        def checks(search: explore_sorted.Search, at: int, digest: str) -> tuple[int, str]:
-            if at == part:
-                search.folder.write("all", spoil(read(search.folder.at("all"))).encode())
-            return check(search, at, digest)
-
-        def spoils(search: explore_sorted.Search) -> None:
-            patch = mock.patch.object(explore_sorted.Search, "check_part", checks)
-            patch.start()
-            self.addCleanup(patch.stop)
-
-        return spoils
-
-    def test_a_state_twice(self) -> None:
-        self.refuses(self.with_all(lambda text: text + "00\n", 0), f"the certificate is of {STATES + 1} states, not {STATES}")
+        with open(self.at("closed.0.3"), "r+b") as file:
+            file.write(b"closed: 9")
+        status, _, err = self.search("9", "--parts", "3")
+        self.assertEqual((status, err.count("closed:")), (0, 2))
 
     def test_a_swapped_set(self) -> None:
         """Parts of a certificate that are of different sets are found out, also where each of these is closed."""
+        lines = explore_sorted.Search.all_lines
+        reads = 0
 
-        def turned(text: str) -> str:
-            header, *lines = text.splitlines(keepends=True)
-            return "".join([header, *reversed(lines)])
+        def turned(search: explore_sorted.Search) -> Iterable[bytes]:
+            nonlocal reads
+            reads += 1
+            header, *blocks = lines(search)
+            return [header, *(reversed(blocks) if reads == 2 else blocks)]
 
-        self.refuses(self.with_all(turned, 1), "different sets", "--parts", "2")
-
-    def test_a_full_disk_at_a_level(self) -> None:
-        self.stop_at(2)
-        os.remove(os.path.join(self.folder, "candidates"))
-        os.symlink("/dev/full", os.path.join(self.folder, "candidates"))
-        status, out, err = self.search("9")
-        self.assertEqual((status, out), (3, ""))
-        self.assertIn("No space left on device", err)
+        with mock.patch.object(explore_sorted.Search, "all_lines", turned):
+            self.fails("different sets", "--parts", "2")
 
     def test_a_full_disk(self) -> None:
-        with mock.patch.object(explore_sorted.os, "fsync", side_effect=OSError(28, "No space left on device")):
-            status, out, err = self.search("9")
-        self.assertEqual((status, out), (3, ""))
-        self.assertIn("No space left on device", err)
+        """At whatever size a file may not grow, the search ends by a device's name, and goes on once there is room."""
+        command = [sys.executable, os.path.join(HERE, "explore_sorted.py"), "--folder", self.folder, "--rmelab", FILTER]
+        for most in (8, 16, 64, 256, 512):
+
+            def bounded() -> None:
+                resource.setrlimit(resource.RLIMIT_FSIZE, (most, most))
+
+            done = subprocess.run([*command, "--", "--wanted", "9"], capture_output=True, text=True, preexec_fn=bounded)
+            self.assertEqual((done.returncode, done.stdout), (3, ""), most)
+            self.assertIn("a device failed: [Errno 27] File too large", done.stderr)
+        self.assertEqual(self.search("9")[:2], ALL)
+
+    def test_too_little_memory(self) -> None:
+        """Memory that is refused is named, and the search goes on once there is some."""
+        with mock.patch.object(explore_sorted, "pack", side_effect=[pack(b"00\n"), pack(b"30\n05\n"), MemoryError]):
+            self.fails("out of memory")
+        self.assertEqual(self.search("9")[:2], ALL)
 
     def test_whole_paths(self) -> None:
         words = with_whole_paths(["--algorithm", "a.lock", "--procs", "2"])
         self.assertEqual(words, ("--algorithm", os.path.abspath("a.lock"), "--procs", "2"))
+
+
+def level_digest(folder: str, name: str) -> str:
+    """The digest that the ledger in a folder has of a level."""
+    with open(os.path.join(folder, "ledger"), encoding="ascii") as file:
+        return explore_sorted.Level.from_line(file.readlines()[int(name.split(".")[1])]).sha256
+
+
+class Numbers(unittest.TestCase):
+    """Fingerprints, and sets of them."""
+
+    def test_lines_that_differ_in_two_characters_have_different_fingerprints(self) -> None:
+        """Also where both are high bytes, or low ones, of the words that are summed."""
+        for width in (3, 8, 24):
+            pairs = [(one, other) for one in range(width) for other in range(one)]
+            rows = numpy.full((len(pairs) * 64, width), ord("0"), numpy.uint8)
+            for at, (one, other) in enumerate(pairs):
+                own = rows[at * 64 : at * 64 + 64]
+                own[:, one] += numpy.repeat(numpy.arange(1, 9, dtype=numpy.uint8) * 7, 8)
+                own[:, other] += numpy.tile(numpy.arange(1, 9, dtype=numpy.uint8) * 7, 8)
+            for salt in (0, 1):
+                self.assertEqual(len(numpy.unique(fingerprints.fingerprints(rows, salt))), len(rows))
+
+    def test_a_set(self) -> None:
+        """The same as a set of Python's."""
+        drawn = numpy.random.default_rng(1)
+        seen, known = fingerprints.Seen(), set[int]()
+        for _ in range(200):
+            numbers = numpy.unique(drawn.integers(0, 2000, drawn.integers(0, 60), numpy.uint64))
+            marks = seen.add(numbers)
+            self.assertEqual([int(number) not in known for number in numbers], marks.tolist())
+            known.update(map(int, numbers))
+            self.assertEqual(len(seen), len(known))
+        self.assertLess(max(len(part.runs) for part in seen.parts), 8)
+
+    def test_each_line_once_in_their_order(self) -> None:
+        rows = fingerprints.rows_of(b"35\n00\n35\n11\n00\n", 3)
+        lines = fingerprints.Lines.of(rows, 0)
+        self.assertEqual(lines.text(numpy.ones(3, numpy.bool_)), b"35\n00\n11\n")
+        marks = lines.numbers != fingerprints.fingerprints(rows[1:2], 0)[0]
+        self.assertEqual(lines.text(marks), b"35\n11\n")
+
+    def test_lines_that_are_cut_off(self) -> None:
+        for text in (b"00\n1", b"00\n1\n1", b"000\n0\n"):
+            with self.assertRaises(Ended):
+                fingerprints.rows_of(text, 3)
 
 
 if __name__ == "__main__":

@@ -12,9 +12,11 @@ PARSER, ARGUMENT = "crates/cli/src/arguments/parser.rt", "crates/cli/src/argumen
 EXPLAIN = "crates/cli/src/explain"
 STRING = r'"((?:\\.|[^"\\])*)"'
 CONSTANT = re.compile(rf"const (\w+): &str =\s+{STRING};", re.S)
-CALL = re.compile(rf"Argument::(\w+)\(([^()]*|[^()]*\([^()]*\)[^()]*)\)(\.as_required\(\))?")
-COMMAND = re.compile(rf'let about = {STRING};(.*?)command\(alloc, "(\w+)", about, (\w+),', re.S)
-ENTRY = re.compile(rf"(?:(\w+)(?: \{{ \.\. \}}|\(_\))? => |\n        )of_\w+\({STRING}, (\w+)\)")
+ROW = re.compile(r'Argument::(Required|)(\w+)\(((?:[^()"]|"(?:\\.|[^"\\])*")*)\)')
+SHARED = re.compile(r"const (\w+): Argument<'static> =\s+(.*?);\n", re.S)
+TABLE = re.compile(r"const (\w+): \[Argument<'static>; \d+\] =\s+\[(.*?)\];\n", re.S)
+COMMAND = re.compile(rf'let about = {STRING};\s+command\(alloc, "(\w+)", about, (\w+), &argument::(\w+)\)')
+ENTRY = re.compile(rf"(?:(\w+)(?: \{{ \.\. \}}|\(_\))? => |\n        )\({STRING}, (\w+)\)")
 BEGINS = re.compile(r"(<!-- made by docs/from-sources: ([\w ./-]+) -->\n).*?(<!-- end of what is made -->)", re.S)
 FENCES = {".c": "c", ".rs": "rust", ".py": "python", ".rt": "rust"}
 # The inner comment, the imports and the allowances of a file, which a page leaves out.
@@ -37,44 +39,29 @@ def cell(text: str) -> str:
 # ---- the commands
 
 
-def shared_argument(name: str) -> tuple[str, str]:
-    """An argument that several commands have: its spelling and its help."""
-    body = re.search(rf"pub fn {name}\(\).*?\n    }}\n", text_of(ARGUMENT), re.S)
-    assert body
-    help_text = re.search(rf"let \w+ =\s+{STRING};", body[0])
-    value = re.search(rf"Argument::text\({STRING}, {STRING}", body[0])
-    left_out = re.search(rf"Form::Optional\({STRING}\), {STRING}, {STRING}", body[0])
-    word = re.search(rf"Form::Word, {STRING}", body[0])
-    assert help_text and (value or left_out or word)
-    if word:
-        return word[1], plain(help_text[1])
-    return f"--{value[1]} {value[2]}" if value else f"--{left_out[2]} [{left_out[3]}]", plain(help_text[1])
-
-
-def argument(kind: str, words: list[str], named: dict[str, str]) -> tuple[str, str]:
-    """The spelling of an argument, and its help."""
-    if kind in ("variant", "algorithm", "image", "starving", "tool"):
-        return shared_argument(kind)
-    if kind == "new":
-        return "WORDS", named["names"]
-    if kind == "file":
-        return "FILE", words[0]
-    if kind == "flag":
-        return f"--{words[0]}", words[1]
-    return f"--{words[0]} {words[1]}", words[2] if len(words) > 2 else named["calls"]
+def argument(row: str) -> tuple[str, str, str]:
+    """Whether an argument is required, its spelling and its help."""
+    found = ROW.search(row)
+    assert found
+    named = constants(ARGUMENT)
+    words = [named[name] if name else plain(text) for text, name in re.findall(rf"{STRING}|(\w+)", found[3])]
+    if found[2] in ("Word", "Words"):
+        return found[1], words[0], words[1]
+    value = {"Flag": "", "Optional": f" [{words[1]}]"}.get(found[2], f" {words[1]}")
+    return found[1], f"--{words[0]}{value}", words[1 if found[2] == "Flag" else 2]
 
 
 def command(name: str) -> str:
     """The synopsis of a command, what it reads and prints, and its options."""
-    for about, body, found, help_name in COMMAND.findall(text_of(PARSER)):
+    for about, found, help_name, table in COMMAND.findall(text_of(PARSER)):
         if found != name:
             continue
-        named = {word: plain(text) for word, text in re.findall(rf"let (\w+) =\s+{STRING};", body)}
+        shared, body = dict(SHARED.findall(text_of(ARGUMENT))), dict(TABLE.findall(text_of(ARGUMENT)))[table]
         rows, synopsis = [], [f"rmelab {name}"]
-        for kind, given, required in CALL.findall(body):
-            spelled, text = argument(kind, [plain(word) for word in re.findall(STRING, given)], named)
+        for row in re.finditer(rf"{ROW.pattern}|[A-Z]+(?=,)", body):
+            required, spelled, text = argument(shared.get(row[0], row[0]))
             rows.append(f"| `{spelled}` | {cell(text)} |")
-            synopsis.append(spelled if required else f"[{spelled}]" + "..." * (kind == "new"))
+            synopsis.append(spelled if required else f"[{spelled}]" + "..." * (row[2] == "Words"))
         said = [line for line in constants(PARSER)[help_name].split("\n") if re.match(r"(?:In|Out|Shown): ", line)]
         lines = ["```text", *wrapped(synopsis), "```", "", plain(about) + ".", ""]
         lines += [f"- *{head}*: {text}" for head, text in (line.split(": ", 1) for line in said)]

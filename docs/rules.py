@@ -12,13 +12,13 @@ TOP = os.path.dirname(os.path.dirname(os.path.realpath(__file__)))
 ARCHITECTURE = "docs/dev/architecture.md"
 THEOREM = "docs/theory/theorem.md"
 
-MOST_CRATES = 35
+MOST_CRATES = 41
 MOST_LINES_OF_A_FILE = 500
 MOST_LINES_OF_A_BODY = 40
 WIDEST_CLAUSE = 140  # Bytes.
 MOST_NOUNS = 40
 MOST_DOUBLE_NAMES = 4
-MOST_WORDS = 37_024
+MOST_WORDS = 37_190
 MOST_HEADLINES = 2
 HEADLINE = "nobody enters before the process that crashed there has entered again"
 
@@ -77,7 +77,7 @@ ONE_PLACE = [
     ("the crates", r"\| `redomail` \| The mailbox: a redo", ARCHITECTURE),
     ("the instructions of a lock", r"\| 64 \| 2,619 \|", "docs/dev/performance.md"),
     ("the shortest schedules of the variants", r"\| no-ties \| 2 \| lock, unlock", "bench/explore/README.md"),
-    ("what the gate costs", r"95 minutes", "docs/dev/performance.md"),
+    ("what the gate costs", r"75 minutes", "docs/dev/performance.md"),
     ("what an order of stores has to keep", r"`xchg`", "docs/theory/trust.md"),
     ("the signs of a drawing", r"`#` section, a space for dead", "docs/dev/texts.md"),
 ]

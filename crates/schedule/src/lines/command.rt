@@ -1,6 +1,6 @@
 //! The first words of a schedule's lines.
 
-ghost use Rattle.std.specs.Prelude.{◌≡◌};
+ghost use Rattle.std.specs.Prelude.{◌≡◌, bytes_eq};
 ghost use Rattle.schedule.specs.Words.{value_of_name};
 ghost use Rattle.schedule.specs.Commands.{commands_by_name};
 
@@ -20,31 +20,40 @@ pub enum Keyword {
     Crash,
 }
 
+/// Whether a word is this name.
+// Inline: at each call the name is known.
+#[inline(always)]
+pub(crate) fn is_name(word: &[u8], name: &[u8]) -> bool
+    ensures { result ≡ bytes_eq word.now name.now }
+{
+    word == name
+}
+
 /// The command that a word names.
 pub fn command_at(word: &[u8]) -> Option<Keyword>
     ensures { result ≡ value_of_name commands_by_name word.now }
 {
-    if word == b"lock".as_slice() {
+    if is_name(word, b"lock") {
         Some(Keyword::Lock)
-    } else if word == b"unlock".as_slice() {
+    } else if is_name(word, b"unlock") {
         Some(Keyword::Unlock)
-    } else if word == b"consistent".as_slice() {
+    } else if is_name(word, b"consistent") {
         Some(Keyword::Consistent)
-    } else if word == b"recover".as_slice() {
+    } else if is_name(word, b"recover") {
         Some(Keyword::Recover)
-    } else if word == b"append".as_slice() {
+    } else if is_name(word, b"append") {
         Some(Keyword::Append)
-    } else if word == b"close".as_slice() {
+    } else if is_name(word, b"close") {
         Some(Keyword::Close)
-    } else if word == b"put".as_slice() {
+    } else if is_name(word, b"put") {
         Some(Keyword::Put)
-    } else if word == b"get".as_slice() {
+    } else if is_name(word, b"get") {
         Some(Keyword::Get)
-    } else if word == b"withdraw".as_slice() {
+    } else if is_name(word, b"withdraw") {
         Some(Keyword::Withdraw)
-    } else if word == b"step".as_slice() {
+    } else if is_name(word, b"step") {
         Some(Keyword::Step)
-    } else if word == b"crash".as_slice() {
+    } else if is_name(word, b"crash") {
         Some(Keyword::Crash)
     } else {
         None

@@ -5,6 +5,7 @@ ghost use Rattle.schedule.specs.Words.{ReadsItem, words_of, value_of_name, item_
 ghost use Rattle.schedule.specs.Deeds.{deeds_by_name, places, deed_with, deed_at, fits, IsDeed, IsValue};
 ghost use Rattle.rmecore.specs.AbstractLock.{doer};
 
+use crate::lines::command::is_name;
 use crate::lines::fault::LineFault;
 use crate::lines::item::Item;
 use crate::lines::range::{fit_words, fits_word};
@@ -32,27 +33,27 @@ pub enum DeedWord {
 fn deed_word_at(word: &[u8]) -> Option<DeedWord>
     ensures { result ≡ value_of_name deeds_by_name word.now }
 {
-    if word == b"begin".as_slice() {
+    if is_name(word, b"begin") {
         Some(DeedWord::Begin)
-    } else if word == b"ready".as_slice() {
+    } else if is_name(word, b"ready") {
         Some(DeedWord::Ready)
-    } else if word == b"enter".as_slice() {
+    } else if is_name(word, b"enter") {
         Some(DeedWord::Enter)
-    } else if word == b"crash".as_slice() {
+    } else if is_name(word, b"crash") {
         Some(DeedWord::Crash)
-    } else if word == b"reenter".as_slice() {
+    } else if is_name(word, b"reenter") {
         Some(DeedWord::Reenter)
-    } else if word == b"leave".as_slice() {
+    } else if is_name(word, b"leave") {
         Some(DeedWord::Leave)
-    } else if word == b"quit".as_slice() {
+    } else if is_name(word, b"quit") {
         Some(DeedWord::Quit)
-    } else if word == b"commit".as_slice() {
+    } else if is_name(word, b"commit") {
         Some(DeedWord::Commit)
-    } else if word == b"show".as_slice() {
+    } else if is_name(word, b"show") {
         Some(DeedWord::Show)
-    } else if word == b"close".as_slice() {
+    } else if is_name(word, b"close") {
         Some(DeedWord::Close)
-    } else if word == b"ruin".as_slice() {
+    } else if is_name(word, b"ruin") {
         Some(DeedWord::Ruin)
     } else {
         None

@@ -1,6 +1,7 @@
 //! Reads the lines of a schedule.
 
 ghost use Rattle.std.specs.Prelude.{◌≡◌, ◌≤◌, drop, IsTrue};
+ghost use Rattle.schedule.specs.declared.lines.command.Keyword.TheVariants as commands;
 ghost use Rattle.schedule.specs.Words.{ReadsItem, words_of, item_after};
 ghost use Rattle.schedule.specs.Commands.{places, line_with, line_at, call_fits, fits, IsCall, IsLine};
 
@@ -13,45 +14,82 @@ use crate::lines::range::{fit_words, fits_word};
 use crate::lines::words::LineWords;
 use rmeworld::Call;
 
+/// Reads the rest of an `append` line.
+#[tactic(auto, unfolding(crate::specs::Words::item_after))]
+fn append_after(width: u64, words: &mut LineWords) -> Result<Line, LineFault>
+    requires { (1 ≤ width) × (width ≤ 8) }
+    ensures { ReadsItem (λ line. line) result (item_after (places width) line_with commands.Append words.old) }
+{
+    let p = words.number()?;
+    let seq = words.number()?;
+    let value = words.body(width)?;
+    Ok(Line::Start(p, Call::Append { seq, value }))
+}
+
+/// Reads the rest of a `put` line.
+#[tactic(auto, unfolding(crate::specs::Words::item_after))]
+fn put_after(width: u64, words: &mut LineWords) -> Result<Line, LineFault>
+    ensures { ReadsItem (λ line. line) result (item_after (places width) line_with commands.Put words.old) }
+{
+    let p = words.number()?;
+    let i = words.number()?;
+    let v = words.last_number()?;
+    Ok(Line::Start(p, Call::Put(i, v)))
+}
+
+/// Reads the rest of a `get` line.
+#[tactic(auto, unfolding(crate::specs::Words::item_after))]
+fn get_after(width: u64, words: &mut LineWords) -> Result<Line, LineFault>
+    ensures { ReadsItem (λ line. line) result (item_after (places width) line_with commands.Get words.old) }
+{
+    let p = words.number()?;
+    let i = words.last_number()?;
+    Ok(Line::Start(p, Call::Get(i)))
+}
+
+/// Reads the rest of a `step` line.
+#[tactic(auto, unfolding(crate::specs::Words::item_after))]
+fn step_after(width: u64, words: &mut LineWords) -> Result<Line, LineFault>
+    ensures { ReadsItem (λ line. line) result (item_after (places width) line_with commands.Step words.old) }
+{
+    let p = words.number()?;
+    let count = words.count()?;
+    words.end()?;
+    Ok(Line::Step(p, count))
+}
+
+/// Reads the rest of a `crash` line.
+#[tactic(auto, unfolding(crate::specs::Words::item_after))]
+fn crash_after(width: u64, words: &mut LineWords) -> Result<Line, LineFault>
+    ensures { ReadsItem (λ line. line) result (item_after (places width) line_with commands.Crash words.old) }
+{
+    if words.begins_with(b"all") {
+        let _ = words.next();
+        words.end()?;
+        return Ok(Line::CrashAll);
+    }
+    Ok(Line::Crash(words.last_number()?))
+}
+
 /// Reads the rest of a line after its first word.
 #[tactic(auto, unfolding(crate::specs::Words::item_after))]
 fn line_after(width: u64, command: Keyword, words: &mut LineWords) -> Result<Line, LineFault>
     requires { (1 ≤ width) × (width ≤ 8) }
     ensures { ReadsItem (λ line. line) result (item_after (places width) line_with command words.old) }
 {
-    let line = match command {
-        Keyword::Lock => Line::Start(words.number()?, Call::Lock),
-        Keyword::Unlock => Line::Start(words.number()?, Call::Unlock),
-        Keyword::Consistent => Line::Start(words.number()?, Call::Consistent),
-        Keyword::Recover => Line::Start(words.number()?, Call::Recover),
-        Keyword::Append => {
-            let p = words.number()?;
-            let seq = words.number()?;
-            let value = words.body(width)?;
-            Line::Start(p, Call::Append { seq, value })
-        }
-        Keyword::Close => Line::Start(words.number()?, Call::Close),
-        Keyword::Put => {
-            let p = words.number()?;
-            Line::Start(p, Call::Put(words.number()?, words.number()?))
-        }
-        Keyword::Get => {
-            let p = words.number()?;
-            Line::Start(p, Call::Get(words.number()?))
-        }
-        Keyword::Withdraw => Line::Start(words.number()?, Call::Withdraw),
-        Keyword::Step => {
-            let p = words.number()?;
-            Line::Step(p, words.count()?)
-        }
-        Keyword::Crash if words.begins_with(b"all") => {
-            let _ = words.next();
-            Line::CrashAll
-        }
-        Keyword::Crash => Line::Crash(words.number()?),
-    };
-    words.end()?;
-    Ok(line)
+    match command {
+        Keyword::Lock => Ok(Line::Start(words.last_number()?, Call::Lock)),
+        Keyword::Unlock => Ok(Line::Start(words.last_number()?, Call::Unlock)),
+        Keyword::Consistent => Ok(Line::Start(words.last_number()?, Call::Consistent)),
+        Keyword::Recover => Ok(Line::Start(words.last_number()?, Call::Recover)),
+        Keyword::Append => append_after(width, words),
+        Keyword::Close => Ok(Line::Start(words.last_number()?, Call::Close)),
+        Keyword::Put => put_after(width, words),
+        Keyword::Get => get_after(width, words),
+        Keyword::Withdraw => Ok(Line::Start(words.last_number()?, Call::Withdraw)),
+        Keyword::Step => step_after(width, words),
+        Keyword::Crash => crash_after(width, words),
+    }
 }
 
 /// Reads a line of a schedule of this width, without its LF.

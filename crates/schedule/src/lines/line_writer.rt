@@ -4,8 +4,10 @@ ghost use Rattle.std.specs.Prelude.{◌≡◌, ◌++◌, ◌∷◌, OnOk, map};
 ghost use Rattle.std.specs.List.{join_with_byte};
 ghost use Rattle.std.specs.Fmt.{decimal};
 ghost use Rattle.schedule.specs.Words.{spaced_numbers, line_of};
-ghost use Rattle.schedule.specs.Commands.{words_of_line};
+ghost use Rattle.schedule.specs.Commands.{words_of_call, words_of_line};
+ghost use Rattle.schedule.specs.declared.lines.line.Line.TheVariants.{Step};
 
+use crate::lines::count::Count;
 use crate::lines::line::Line;
 use itoa::Buffer;
 use rmecore::Body;
@@ -95,37 +97,53 @@ pub fn put_placed(
     Ok(())
 }
 
+/// Writes a name and two numbers.
+fn put_two(out: &mut Vec<u8>, name: &[u8], one: u64, other: u64) -> Result<(), AllocError>
+    ensures { OnOk result (out.new.items ≡ out.old.items ++ name.now ++ 32 ∷ (decimal one ++ 32 ∷ decimal other)) }
+{
+    put_start(out, name, one)?;
+    put_number(out, other)
+}
+
+/// Writes the words of a line that starts a call of p.
+fn put_call(out: &mut Vec<u8>, p: u64, call: &Call) -> Result<(), AllocError>
+    ensures { OnOk result (out.new.items ≡ out.old.items ++ join_with_byte 32 (words_of_call p call.now)) }
+{
+    match call {
+        Call::Lock => put_start(out, b"lock", p),
+        Call::Unlock => put_start(out, b"unlock", p),
+        Call::Consistent => put_start(out, b"consistent", p),
+        Call::Recover => put_start(out, b"recover", p),
+        Call::Append { seq, value } => put_message(out, b"append", p, *seq, value),
+        Call::Close => put_start(out, b"close", p),
+        Call::Put(i, v) => {
+            put_two(out, b"put", p, *i)?;
+            put_number(out, *v)
+        }
+        Call::Get(i) => put_two(out, b"get", p, *i),
+        Call::Withdraw => put_start(out, b"withdraw", p),
+    }
+}
+
+/// Writes the words of a line of steps.
+fn put_steps(out: &mut Vec<u8>, p: u64, count: Count) -> Result<(), AllocError>
+    ensures { OnOk result (out.new.items ≡ out.old.items ++ join_with_byte 32 (words_of_line (Step p count))) }
+{
+    let k = count.get();
+    if k == 1 {
+        return put_start(out, b"step", p);
+    }
+    put_two(out, b"step", p, k)
+}
+
 /// Writes the words of a line.
 fn put_words(out: &mut Vec<u8>, line: &Line) -> Result<(), AllocError>
     ensures { OnOk result (out.new.items ≡ out.old.items ++ join_with_byte 32 (words_of_line line.now)) }
 {
-    match *line {
-        Line::Start(p, call) => match call {
-            Call::Lock => put_start(out, b"lock", p),
-            Call::Unlock => put_start(out, b"unlock", p),
-            Call::Consistent => put_start(out, b"consistent", p),
-            Call::Recover => put_start(out, b"recover", p),
-            Call::Append { seq, value } => put_message(out, b"append", p, seq, &value),
-            Call::Close => put_start(out, b"close", p),
-            Call::Put(i, v) => {
-                put_start(out, b"put", p)?;
-                put_number(out, i)?;
-                put_number(out, v)
-            }
-            Call::Get(i) => {
-                put_start(out, b"get", p)?;
-                put_number(out, i)
-            }
-            Call::Withdraw => put_start(out, b"withdraw", p),
-        },
-        Line::Step(p, k) => {
-            put_start(out, b"step", p)?;
-            if k.get() != 1 {
-                put_number(out, k.get())?;
-            }
-            Ok(())
-        }
-        Line::Crash(p) => put_start(out, b"crash", p),
+    match line {
+        Line::Start(p, call) => put_call(out, *p, call),
+        Line::Step(p, count) => put_steps(out, *p, *count),
+        Line::Crash(p) => put_start(out, b"crash", *p),
         Line::CrashAll => out.extend_from_slice(b"crash all"),
     }
 }

@@ -1,10 +1,11 @@
 //! Reads the words of a line one after the other.
 
-ghost use Rattle.std.specs.Prelude.{if◌then◌else◌, ◌≡◌, ℕ, ◌^◌, ◌<◌, ◌-◌, ◌≤◌, List, [], length, take, drop, Option, MatchOption, IfSome, IfNone, IfOk, OnOk, Ok, Some, None, IsTrue, ◌↔◌, true, false, Err, ◌∷◌};
+ghost use Rattle.std.specs.Prelude.{if◌then◌else◌, ◌≡◌, ℕ, ◌^◌, ◌<◌, ◌-◌, ◌≤◌, List, [], length, take, drop, Option, MatchOption, IfSome, IfNone, IfOk, IfErr, OnOk, ◌⊎◌, codes, Ok, Some, None, IsTrue, ◌↔◌, true, false, Err, ◌∷◌};
 ghost use Rattle.std.specs.Option.{option_copied};
 ghost use Rattle.std.specs.Str.Parse.{digits_value, AllDigits};
 ghost use Rattle.schedule.specs.declared.lines.fault.LineFault.TheVariants.{NoHeader};
 ghost use Rattle.schedule.specs.Words.{words_left, words_of, first_of, is_numeral, number_in, ReadsItem, numbers_at, repeated_shape, any, Number, WordShape, begins_with, is_nil};
+ghost use Rattle.schedule.specs.Headers.{is_wide};
 
 use crate::lines::count::Count;
 use crate::lines::cut::cut_once;
@@ -92,6 +93,15 @@ impl<'a> LineWords<'a> {
         }
     }
 
+    /// The number of 64 bits that the last word says. `TrailingText` where a word is left after it.
+    pub fn last_number(&mut self) -> Result<u64, LineFault>
+        ensures { ReadsItem (λ n. n ∷ []) result (numbers_at (any ∷ []) self.old) }
+    {
+        let number = self.number()?;
+        self.end()?;
+        Ok(number)
+    }
+
     /// The number of steps that the last word says, from 2 to 1,000,000. One where no word is left.
     pub fn count(&mut self) -> Result<Count, LineFault>
         ensures number { ReadsItem (λ k. k) result (if is_nil self.old then Ok 1 else number_in 2 1000000 (first_of self.old)) }
@@ -127,6 +137,31 @@ impl<'a> LineWords<'a> {
             Some(next) if next == word => Ok(()),
             _ => Err(LineFault::NoHeader),
         }
+    }
+
+    /// Takes the next two words of a header, a name and what it names. `NoHeader` unless the first is this name.
+    pub fn take_named(&mut self, name: &[u8]) -> Result<Option<&'a [u8]>, LineFault>
+        ensures word { ReadsItem option_copied result
+            (if begins_with name.now self.old then Ok (first_of (drop 1 self.old)) else Err NoHeader) }
+        ensures rest { OnOk result (self.new ≡ drop 1 (drop 1 self.old)) }
+    {
+        self.take_fixed(name)?;
+        Ok(self.next())
+    }
+
+    /// Takes the first two words of a header, and answers whether it is of version 2. `NoHeader` unless the first is this word,
+    /// and the second a version.
+    pub fn version(&mut self, word: &[u8]) -> Result<bool, LineFault>
+        ensures wide { IfOk result (λ wide. (begins_with word.now self.old ≡ true) × (is_wide self.old ≡ wide)
+            × (begins_with (if wide then codes "2" else codes "1") (drop 1 self.old) ≡ true)) }
+        ensures fault { IfErr result (λ fault. (fault ≡ NoHeader) × ((begins_with word.now self.old ≡ false)
+            ⊎ (begins_with (if is_wide self.old then codes "2" else codes "1") (drop 1 self.old) ≡ false))) }
+        ensures rest { OnOk result (self.new ≡ drop 1 (drop 1 self.old)) }
+    {
+        self.take_fixed(word)?;
+        let wide = self.begins_with(b"2");
+        self.take_fixed(if wide { b"2" } else { b"1" })?;
+        Ok(wide)
     }
 
     /// Whether the next word is this one. It is not taken.

@@ -5,15 +5,14 @@ ghost use Rattle.schedule.specs.declared.texts.fault.TextFault.TheVariants.{OutO
 
 use crate::lines::fault::LineFault;
 use std::alloc::{AllocError, AllocFailed};
+use std::fmt;
 use thiserror::Error;
 
 /// Why a text could not be read.
-#[derive(Clone, Copy, Debug, PartialEq, Eq, Error)]
+#[derive(Clone, Copy, Debug, PartialEq, Eq)]
 pub enum TextFault {
     /// The first faulty line, counted from 1, and the number of its fault, from 1 to 6.
-    #[error("line {line}: fault {number}")]
     At { line: u64, number: u64 },
-    #[error("out of memory")]
     OutOfMemory,
 }
 
@@ -30,6 +29,27 @@ impl TextFault {
         }
     }
 }
+
+/// Writes a line, what it has, and the number of that.
+pub(crate) fn write_at<W: fmt::Write>(
+    f: &mut fmt::Formatter<W>,
+    line: u64,
+    what: &str,
+    number: u64,
+) -> fmt::Result {
+    write!(f, "line {line}: {what} {number}")
+}
+
+impl fmt::Display for TextFault {
+    fn fmt<W: fmt::Write>(&self, f: &mut fmt::Formatter<W>) -> fmt::Result {
+        match *self {
+            TextFault::At { line, number } => write_at(f, line, "fault", number),
+            TextFault::OutOfMemory => f.write_str("out of memory"),
+        }
+    }
+}
+
+impl std::error::Error for TextFault {}
 
 impl From<AllocError> for TextFault {
     ghost from_gives = { λ _ e. e ≡ TextOutOfMemory };

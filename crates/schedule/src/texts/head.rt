@@ -29,15 +29,10 @@ impl Heading for Head {
     #[tactic(auto, unfolding(crate::specs::Headers::header_at))]
     fn read(line: &[u8]) -> Result<Head, LineFault> {
         let mut words = LineWords::of(line);
-        words.take_fixed(b"rme")?;
-        let wide = words.begins_with(b"2");
-        words.take_fixed(if wide { b"2" } else { b"1" })?;
-        words.take_fixed(b"procs")?;
-        let procs = words.next();
-        words.take_fixed(b"limit")?;
-        let limit = words.next();
-        words.take_fixed(b"cap")?;
-        let cap = words.next();
+        let wide = words.version(b"rme")?;
+        let procs = words.take_named(b"procs")?;
+        let limit = words.take_named(b"limit")?;
+        let cap = words.take_named(b"cap")?;
         if wide {
             words.take_fixed(b"width")?;
         }

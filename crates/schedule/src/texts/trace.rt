@@ -33,13 +33,9 @@ impl Heading for TraceHead {
     #[tactic(auto, unfolding(crate::specs::Headers::header_at))]
     fn read(line: &[u8]) -> Result<TraceHead, LineFault> {
         let mut words = LineWords::of(line);
-        words.take_fixed(b"trace")?;
-        let wide = words.begins_with(b"2");
-        words.take_fixed(if wide { b"2" } else { b"1" })?;
-        words.take_fixed(b"procs")?;
-        let procs = words.next();
-        words.take_fixed(b"cap")?;
-        let cap = words.next();
+        let wide = words.version(b"trace")?;
+        let procs = words.take_named(b"procs")?;
+        let cap = words.take_named(b"cap")?;
         if wide {
             words.take_fixed(b"width")?;
         }

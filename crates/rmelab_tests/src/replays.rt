@@ -2,14 +2,14 @@
 //! two outputs in memory; and each request for memory is refused in turn. Each names public functions of `commands` and of the
 //! crates below it.
 
-mod devices;
-mod everything;
+pub mod devices;
+pub mod everything;
 mod four_methods;
-mod images;
+pub mod images;
 mod memory;
-mod replays;
+pub mod replays;
 pub mod reports;
 pub mod sessions;
 pub mod stepwise;
-mod texts;
-mod variants;
+pub mod texts;
+pub mod variants;

@@ -5,28 +5,24 @@ use redomail::Message;
 use rmecore::{Body, Refusal};
 use std::alloc::Global;
 
-pub fn new_judge(alloc: Global, procs: u64, cap: u64) -> Result<Judge, Refusal> {
-    Judge::new(alloc, procs, cap)
+pub fn new_judge(
+    alloc: Global,
+    procs: u64,
+    cap: u64,
+    start: &Start,
+) -> (Result<Judge, Refusal>, Result<Judge, Refusal>) {
+    (
+        Judge::new(alloc, procs, cap),
+        Judge::from_start(alloc, start),
+    )
 }
 
-pub fn judge_from(alloc: Global, start: &Start) -> Result<Judge, Refusal> {
-    Judge::from_start(alloc, start)
+pub fn fed(judge: &mut Judge, deed: Deed) -> (Result<(), Fault>, Result<(), Fault>, u64) {
+    (judge.feed(deed), judge.feed_from(&deed), judge.procs())
 }
 
-pub fn feed(judge: &mut Judge, deed: Deed) -> Result<(), Fault> {
-    judge.feed(deed)
-}
-
-pub fn feed_from(judge: &mut Judge, deed: &Deed) -> Result<(), Fault> {
-    judge.feed_from(deed)
-}
-
-pub fn procs(judge: &Judge) -> u64 {
-    judge.procs()
-}
-
-pub fn body_in(deed: Deed) -> Option<Body> {
-    match deed {
+pub fn in_variants(deed: Deed, phase: Phase) -> (Option<Body>, bool) {
+    let body = match deed {
         Deed::Commit { p: _, seq: _, v }
         | Deed::Show {
             p: _,
@@ -35,7 +31,12 @@ pub fn body_in(deed: Deed) -> Option<Body> {
             v,
         } => Some(v),
         Deed::Outer(_) | Deed::Close { p: _ } | Deed::Ruin { p: _ } => None,
-    }
+    };
+    let is_in = match phase {
+        Phase::Inside | Phase::DeadIn => true,
+        Phase::Out | Phase::Door | Phase::Ready => false,
+    };
+    (body, is_in)
 }
 
 /// The faults and their numbers, as docs/use/errors.md has them.
@@ -52,13 +53,6 @@ pub fn number_specified(fault: Fault) -> u64 {
         Fault::LongRecovery => 9,
         Fault::LongDoorway => 10,
         Fault::BrokenClaim => 11,
-    }
-}
-
-pub fn is_in(phase: Phase) -> bool {
-    match phase {
-        Phase::Inside | Phase::DeadIn => true,
-        Phase::Out | Phase::Door | Phase::Ready => false,
     }
 }
 

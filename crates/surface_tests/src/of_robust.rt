@@ -25,59 +25,44 @@ pub fn new_members<R>(
     Arena::new(rt, alloc, procs, limit, cap, width)
 }
 
-pub fn lock_within<P: CrashPlan>(
+pub fn enter_and_leave<P: CrashPlan>(
     member: &mut Member,
     plan: &mut P,
     turns: u64,
-) -> Result<Entry, LockFault> {
-    member.lock_within(plan, turns)
+) -> (
+    Result<Entry, LockFault>,
+    Result<Found, LockFault>,
+    Result<bool, LockFault>,
+    Result<(), LockFault>,
+    Result<(), LockFault>,
+) {
+    (
+        member.lock_within(plan, turns),
+        member.recover(plan),
+        member.consistent(plan),
+        member.unlock(plan),
+        member.withdraw(plan),
+    )
 }
 
-pub fn recover<P: CrashPlan>(member: &mut Member, plan: &mut P) -> Result<Found, LockFault> {
-    member.recover(plan)
-}
-
-pub fn consistent<P: CrashPlan>(member: &mut Member, plan: &mut P) -> Result<bool, LockFault> {
-    member.consistent(plan)
-}
-
-pub fn unlock<P: CrashPlan>(member: &mut Member, plan: &mut P) -> Result<(), LockFault> {
-    member.unlock(plan)
-}
-
-pub fn get<P: CrashPlan>(member: &mut Member, i: u64, plan: &mut P) -> Result<u64, LockFault> {
-    member.get(i, plan)
-}
-
-pub fn put<P: CrashPlan>(
+pub fn board_and_mail<P: CrashPlan>(
     member: &mut Member,
-    i: u64,
-    v: u64,
     plan: &mut P,
-) -> Result<(), LockFault> {
-    member.put(i, v, plan)
-}
-
-pub fn append_within<P: CrashPlan>(
-    member: &mut Member,
-    seq: u64,
-    value: Body,
-    plan: &mut P,
+    (i, v): (u64, u64),
+    (seq, value): (u64, Body),
     turns: u64,
-) -> Result<Reply, LockFault> {
-    member.append_within(seq, value, plan, turns)
-}
-
-pub fn close_within<P: CrashPlan>(
-    member: &mut Member,
-    plan: &mut P,
-    turns: u64,
-) -> Result<Reply, LockFault> {
-    member.close_within(plan, turns)
-}
-
-pub fn withdraw<P: CrashPlan>(member: &mut Member, plan: &mut P) -> Result<(), LockFault> {
-    member.withdraw(plan)
+) -> (
+    Result<u64, LockFault>,
+    Result<(), LockFault>,
+    Result<Reply, LockFault>,
+    Result<Reply, LockFault>,
+) {
+    (
+        member.get(i, plan),
+        member.put(i, v, plan),
+        member.append_within(seq, value, plan, turns),
+        member.close_within(plan, turns),
+    )
 }
 
 pub fn read_from(
@@ -92,30 +77,22 @@ pub fn steps_and_number(member: &Member) -> (u64, u64) {
     (member.steps(), member.number())
 }
 
-pub fn lock<R: Wait, P: CrashPlan>(
+pub fn wait<R: Wait, P: CrashPlan>(
     rt: &R,
     member: &mut Member,
     plan: &mut P,
-) -> Result<Entry, LockFault> {
-    member.lock(rt, plan)
-}
-
-pub fn append<R: Wait, P: CrashPlan>(
-    rt: &R,
-    member: &mut Member,
     seq: u64,
     value: Body,
-    plan: &mut P,
-) -> Result<Reply, LockFault> {
-    member.append(rt, seq, value, plan)
-}
-
-pub fn close<R: Wait, P: CrashPlan>(
-    rt: &R,
-    member: &mut Member,
-    plan: &mut P,
-) -> Result<Reply, LockFault> {
-    member.close(rt, plan)
+) -> (
+    Result<Entry, LockFault>,
+    Result<Reply, LockFault>,
+    Result<Reply, LockFault>,
+) {
+    (
+        member.lock(rt, plan),
+        member.append(rt, seq, value, plan),
+        member.close(rt, plan),
+    )
 }
 
 pub fn gathered(alloc: Global, members: Vec<Member>) -> Result<Image, (Vec<Member>, GatherFault)>
@@ -137,15 +114,16 @@ pub fn run<G: Gate + Send + Drop, R: Threads + Wait + Sync>(
     run_lab(rt, alloc, spec, gates)
 }
 
-pub fn fields_of_spec(spec: Spec) -> (u64, u64, u64, u64, u64) {
+pub fn fields(spec: Spec, setup: Setup) -> ((u64, u64, u64, u64, u64), (Layout, u64)) {
     let Spec {
         procs,
         messages,
-        limit,
+        limit: limit_of_lab,
         cap,
         width,
     } = spec;
-    (procs, messages, limit, cap, width)
+    let Setup { layout, limit } = setup;
+    ((procs, messages, limit_of_lab, cap, width), (layout, limit))
 }
 
 pub fn messages_of(lab: LabResult) -> Vec<Message> {
@@ -161,16 +139,24 @@ pub fn of_execution(
     (entry, fault, setup)
 }
 
-pub fn sizes_of(setup: Setup) -> (Layout, u64) {
-    let Setup { layout, limit } = setup;
-    (layout, limit)
-}
-
-pub fn is_clean(entry: Entry) -> bool {
-    match entry {
+pub fn in_variants(
+    entry: Entry,
+    gathered: GatherFault,
+    lab: LabFault,
+) -> (bool, bool, Option<u64>) {
+    let is_clean = match entry {
         Entry::Clean => true,
         Entry::OwnerDied => false,
-    }
+    };
+    let lacks_members = match gathered {
+        GatherFault::NotAll => true,
+        GatherFault::OutOfMemory => false,
+    };
+    let worker = match lab {
+        LabFault::Member { p, fault: _ } | LabFault::Reply { p, reply: _ } => Some(p),
+        LabFault::BadSpec | LabFault::OutOfMemory => None,
+    };
+    (is_clean, lacks_members, worker)
 }
 
 /// The faults of a member and their numbers, as docs/use/errors.md has them.
@@ -186,20 +172,6 @@ pub fn number_specified(fault: LockFault) -> u64 {
         LockFault::BadIndex => 8,
         LockFault::OutOfMemory => 9,
         LockFault::BadWidth => 10,
-    }
-}
-
-pub fn lacks_members(fault: GatherFault) -> bool {
-    match fault {
-        GatherFault::NotAll => true,
-        GatherFault::OutOfMemory => false,
-    }
-}
-
-pub fn worker_in(fault: LabFault) -> Option<u64> {
-    match fault {
-        LabFault::Member { p, fault: _ } | LabFault::Reply { p, reply: _ } => Some(p),
-        LabFault::BadSpec | LabFault::OutOfMemory => None,
     }
 }
 

@@ -2,8 +2,8 @@
 
 use crashlab::Variant;
 use diagram::{
-    Drawing, LifelinePhase, Session, SessionReply, Style, draw, follow, follow_as_lines,
-    put_verdict_object, write_drawing, write_page,
+    Drawing, LifelinePhase, LockSimulation, Session, SessionReply, Style, draw, follow,
+    follow_as_lines, put_verdict_object, write_drawing, write_page,
 };
 use explorer::{MoveVerdict, SearchFault, SearchOutcome, Space, Unwatched, Watch, laws, search};
 use judge::Judge;
@@ -22,22 +22,32 @@ pub fn searched<S: Space>(
     search(alloc, start, most_moves, most_states, &mut Unwatched)
 }
 
-pub fn length_of_path<M: Copy>(outcome: &SearchOutcome<M>) -> Option<usize> {
+pub fn watched<M: Copy, W: Watch>(
+    outcome: &SearchOutcome<M>,
+    watch: &mut W,
+    moves: u64,
+    states: u64,
+) -> Option<usize> {
+    watch.see(moves, states);
     match outcome {
         SearchOutcome::Path(moves) => Some(moves.len()),
         SearchOutcome::NoneWithin | SearchOutcome::Nowhere(_) => None,
     }
 }
 
-pub fn is_fault(verdict: MoveVerdict) -> bool {
-    match verdict {
+pub fn in_variants(verdict: MoveVerdict, made: Move, fault: ExploreFault) -> (bool, u64, bool) {
+    let is_fault = match verdict {
         MoveVerdict::Fault => true,
         MoveVerdict::Silent => false,
-    }
-}
-
-pub fn watched<W: Watch>(watch: &mut W, moves: u64, states: u64) {
-    watch.see(moves, states);
+    };
+    let process = match made {
+        Move::Start(p, _) | Move::Step(p) | Move::Crash(p) => p,
+    };
+    let has_given_up = match fault {
+        ExploreFault::TooManyStates => true,
+        ExploreFault::Refused(_) | ExploreFault::OutOfMemory => false,
+    };
+    (is_fault, process, has_given_up)
 }
 
 pub fn searched_for_schedule<W: Watch>(
@@ -63,19 +73,6 @@ pub fn bounds_of(crashes: u64, moves: u64, states: u64) -> Bounds {
     }
 }
 
-pub fn process_of(made: Move) -> u64 {
-    match made {
-        Move::Start(p, _) | Move::Step(p) | Move::Crash(p) => p,
-    }
-}
-
-pub fn has_given_up(fault: ExploreFault) -> bool {
-    match fault {
-        ExploreFault::TooManyStates => true,
-        ExploreFault::Refused(_) | ExploreFault::OutOfMemory => false,
-    }
-}
-
 pub fn drawn<M: Machine>(
     alloc: Global,
     machine: &mut M,
@@ -88,12 +85,20 @@ pub fn drawn<M: Machine>(
 
 pub fn written<W: Sink>(
     alloc: Global,
+    first: &Image,
     drawing: &Drawing,
-    svg: bool,
+    last: &Image,
     w: &mut W,
-) -> Result<(), ReplayFault> {
-    let style = if svg { Style::Svg } else { Style::Text };
-    write_drawing(alloc, drawing, style, w)
+) -> (
+    Result<(), ReplayFault>,
+    Result<(), ReplayFault>,
+    Result<(), ReplayFault>,
+) {
+    (
+        write_drawing(alloc, drawing, Style::Svg, w),
+        write_drawing(alloc, drawing, Style::Text, w),
+        write_page(alloc, first, drawing, last, w),
+    )
 }
 
 pub fn followed<M: Machine, W: Sink>(
@@ -103,40 +108,37 @@ pub fn followed<M: Machine, W: Sink>(
     schedule: &Schedule,
     first: LifelinePhase,
     w: &mut W,
-) -> Result<Verdict, ReplayFault> {
-    follow(alloc, machine, judge, schedule, first, w)
+) -> (Result<Verdict, ReplayFault>, Result<Verdict, ReplayFault>) {
+    (
+        follow(alloc, machine, judge, schedule, first, w),
+        follow_as_lines(alloc, machine, judge, schedule, first, w),
+    )
 }
 
-pub fn followed_as_lines<M: Machine, W: Sink>(
+pub fn opened(alloc: Global, schedule: Schedule) -> Result<Session<LockSimulation>, AllocError> {
+    Session::new(alloc, schedule)
+}
+
+pub fn session_calls(
     alloc: Global,
-    machine: &mut M,
-    judge: &mut Judge,
-    schedule: &Schedule,
-    first: LifelinePhase,
-    w: &mut W,
-) -> Result<Verdict, ReplayFault> {
-    follow_as_lines(alloc, machine, judge, schedule, first, w)
+    session: &mut Session<LockSimulation>,
+    line: &[u8],
+    verdict: Verdict,
+    page: &mut Vec<u8>,
+) -> (
+    Result<(), AllocError>,
+    Result<SessionReply, AllocError>,
+    Result<(), AllocError>,
+) {
+    (
+        session.put_state(page),
+        session.answer(alloc, line, page),
+        put_verdict_object(page, verdict),
+    )
 }
 
-pub fn paged<W: Sink>(
-    alloc: Global,
-    first: &Image,
-    drawing: &Drawing,
-    last: &Image,
-    w: &mut W,
-) -> Result<(), ReplayFault> {
-    write_page(alloc, first, drawing, last, w)
-}
-
-pub fn verdict_written(out: &mut Vec<u8>, verdict: Verdict) -> Result<(), AllocError> {
-    put_verdict_object(out, verdict)
-}
-
-pub fn ends_at(alloc: Global, schedule: Schedule, line: &[u8]) -> Result<bool, AllocError> {
-    let mut session = Session::new(alloc, schedule)?;
-    let mut page = Vec::new(alloc);
-    session.put_state(&mut page)?;
-    Ok(session.answer(alloc, line, &mut page)? == SessionReply::Quits)
+pub fn quits(reply: &SessionReply) -> bool {
+    *reply == SessionReply::Quits
 }
 
 pub fn cite_the_laws<S: Space>() {

@@ -1,6 +1,6 @@
 //! Whole invocations of other kinds: senders, a hunt, the version, and words that are refused.
 
-use crate::support::invocation::{all_come_to, comes_to};
+use crate::support::invocation::comes_to;
 use crate::support::row::ProgramRow;
 use cli::arguments::words::words_given;
 use commands::CommandFault;
@@ -11,7 +11,7 @@ use std::rt::Env;
 use std::test::Fail;
 
 /// A bad variant is found before a bad size.
-const REPORTS_AND_REFUSALS: &str = "
+pub const REPORTS_AND_REFUSALS: &str = "
 @row rmelab run --procs 1 --messages 1 --crash 0 --seed 1 @out
 sender 0 messages 1 twice 0 order yes
 total 1
@@ -46,11 +46,6 @@ rmelab: bad size
 @row rmelab hunt --variant right --seed 1 --rounds 0 --steps 1 @ends 2 @err
 rmelab: bad size
 ";
-
-#[test]
-fn reports_and_refusals(rt: HostRuntime) -> Result<(), Fail> {
-    all_come_to(&rt, rt.alloc(), &[], REPORTS_AND_REFUSALS)
-}
 
 const MEMBER_3_FAILED: &str = "rmelab: member 3 failed\n";
 

@@ -1,10 +1,11 @@
 //! Each request for memory of replays, of a trace and of sessions is refused in turn.
 
 use crate::replays::{reports, sessions, stepwise};
-use crate::support::invocation::all_meet_refusals;
+use crate::support::invocation::all_come_to;
 use std::test::Fail;
 
 const OUT_OF_MEMORY: &str = "
+@memory
 @row rmelab replay @in SMALLEST @out REPORT
 @row rmelab replay --json --save a.json @in SMALLEST @out OBJECT
 @row rmelab replay --each @in SMALLEST @out TOLD
@@ -16,7 +17,7 @@ verdict fine
 
 #[test]
 fn out_of_memory(rt: HostRuntime) -> Result<(), Fail> {
-    all_meet_refusals(
+    all_come_to(
         &rt,
         rt.alloc(),
         &[reports::TEXTS, sessions::TEXTS, stepwise::TEXTS],

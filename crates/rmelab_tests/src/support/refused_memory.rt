@@ -56,7 +56,7 @@ fn meets_a_refusal(
     words: Vec<String>,
     row: &ProgramRow<'_>,
 ) -> Result<bool, Fail> {
-    let mut out = [0; 2048];
+    let mut out = [0; 16384];
     let mut err = [0; 256];
     let code = ends(rt, alloc, words, row, &mut out, &mut err);
     let is_refused = code == ExitCode::from(3);

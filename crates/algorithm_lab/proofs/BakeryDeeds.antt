@@ -1,5 +1,5 @@
 -- What is heard of a deed that the lock allows: the deed itself, and its phase in the abstract lock. A judge allows it too.
-use Rattle.std.proofs.Common.{◌≡◌, ℕ, true, List, [], ◌∷◌, ◌++◌, Option, Some, None, Ok, refl, sym, ap, ◌∙◌, subst}
+use Rattle.std.proofs.Common.{◌≡◌, ℕ, true, false, List, [], ◌∷◌, ◌++◌, Option, Some, None, Ok, refl, sym, ap, ◌∙◌, subst}
 use Rattle.rmecore.specs.AbstractLock.{Abstract, Legal, abstract_after}
 use Rattle.rmecore.specs.Needs.{put}
 use Rattle.rmecore.specs.Turn.{Turn, Plain}
@@ -26,7 +26,7 @@ use Rattle.algorithm_lab.specs.declared.run_report.TextReport.TheVariants.{Did}
 use Rattle.algorithm_lab.proofs.BakeryPlaces.{noted_by}
 
 abbrev pub promised : Promises
-promised = record { reentry = true; order = true; exit = None; recovery = None; doorway = None; progress = None }
+promised = record { reentry = true; order = true; exit = None; recovery = None; doorway = None; progress = None; bounds = false }
 
 -- no deed, or one of a step of p
 abbrev pub OfStep : ℕ → Option Outer → Type 0

@@ -30,7 +30,7 @@ pub record Names : Type 0 where
   pub v : ℕ
 
 abbrev pub names : (c k i m j v : ℕ) → List ℕ
-names c k i m j v = c ∷ k ∷ i ∷ m ∷ j ∷ v ∷ replicate 26 0
+names c k i m j v = c ∷ k ∷ i ∷ m ∷ j ∷ v ∷ replicate 58 0
 
 abbrev pub local : ℕ → List ℕ → NotedDeeds → LocalState
 local at store noted = record { at = at; store = store; noted = noted }

@@ -70,7 +70,7 @@ with_facts w ps at names (fact ∷ facts) = with_facts w ps (one_more at) (slice
 
 -- the first two names are these processes
 abbrev pub names_of_two : Option ℕ → Option ℕ → List (Option ℕ)
-names_of_two first second = slice_set (slice_set (replicate 32 None) 0 first) 1 second
+names_of_two first second = slice_set (slice_set (replicate 64 None) 0 first) 1 second
 
 -- the condition of a claim holds of these processes
 abbrev pub holds_of : AlgorithmWorldState → List Phase → NeverClaim → Option ℕ → Option ℕ → Bool

@@ -1,16 +1,17 @@
 -- Lines that are read one after the other are those of a block.
 use Rattle.std.proofs.Common.{◌≡◌, ℕ, Bool, true, false, cond, ltb, List, [], ◌∷◌, ◌++◌, length, Option, Some, None, IfSome, slice_get, drop, codes, refl, sym, ap, subst}
+use Rattle.algorithms.specs.declared.expression.Operator.TheVariants.{Within}
 use Rattle.algorithm_texts.specs.declared.lines.Block.{Block as Kind}
 use Rattle.algorithm_texts.specs.declared.lines.Block.TheVariants.{If, Else, For}
 use Rattle.algorithm_texts.specs.declared.lines.CallRead.{CallRead}
 use Rattle.algorithm_texts.specs.declared.lines.Opened.{Opened}
 use Rattle.algorithm_texts.specs.declared.tokens.Sign.TheVariants.{Assign, OpenIndex, Colon}
 use Rattle.algorithm_texts.specs.declared.tokens.Token.{Token}
-use Rattle.algorithm_texts.specs.Parts.{◌>>=◌}
-use Rattle.algorithm_texts.specs.Grammar.{is_among}
+use Rattle.algorithm_texts.specs.Parts.{Term, Joined, ◌>>=◌}
+use Rattle.algorithm_texts.specs.Grammar.{is_among, row_read}
 use Rattle.algorithm_texts.specs.Fronts.{is_the_word, is_the_sign, letters_of, past_word, past_sign, is_over, deed_said, past_withdraw, value_tokens, value_rest, begins_no_simple}
-use Rattle.algorithm_texts.specs.Drafts.{SharedWord, DraftMembers, DraftAction, Loading, Storing, Awaiting, Swapping, Accessing, Noting, Going, Beginning, Drafted}
-use Rattle.algorithm_texts.specs.LineDrafts.{read_value, read_condition, scope_in, new_name, name_set, index_in, with_names, with_form, read_word, read_until, read_deed, read_access, begins_swap, read_swap_value, read_swap, read_awaited_swap, read_awaited_load, read_awaited, read_await, read_store, is_no_word, read_load, begins_word, read_assigned_value, read_assigned, read_private_assignment, read_assignment, read_done, read_goto, read_simple, opening, closing, landing, read_test, read_then, is_looping, loops, read_members, loop_opened, read_for, else_after, else_in, going_round, end_in, read_label}
+use Rattle.algorithm_texts.specs.Drafts.{SharedWord, DraftElements, AllElements, ElementAt, DraftMembers, DraftAction, Loading, Storing, Awaiting, Swapping, Accessing, Noting, Going, Beginning, Drafted}
+use Rattle.algorithm_texts.specs.LineDrafts.{read_value, read_condition, scope_in, new_name, name_set, index_in, with_names, with_form, read_word, read_until, read_deed, read_access, begins_swap, read_swap_value, read_swap, read_awaited_swap, read_awaited_load, read_awaited, read_await, read_store, is_no_word, read_load, begins_word, read_assigned_value, read_assigned, read_private_assignment, read_brackets, read_row_value, read_element_set, begins_access, read_all_set, read_private_set, read_assignment, read_done, read_goto, read_simple, opening, closing, landing, read_test, read_then, is_looping, loops, read_members, loop_opened, read_for, else_after, else_in, going_round, end_in, read_label}
 use Rattle.algorithm_texts.specs.TextDrafts.{with_number}
 use Rattle.algorithm_texts.specs.Blocks.{Block, Empty, Line, Enclosed, Divided, read_if_block, read_if_line, begins_block, read_alone, divides, ends, draft_after_statement, beginning, dividing, ending, draft_after_block}
 
@@ -131,7 +132,7 @@ value_stays d name tokens =
 assigned_stays : (d : Drafted) (name : ℕ) (tokens : List Token) → Stays (round d) (read_assigned d name tokens)
 assigned_stays d name tokens =
     choice_stays (round d) (begins_swap tokens) (read_swap d name (drop 1 tokens)) _ (swap_stays d name (drop 1 tokens))
-    (choice_stays (round d) (begins_word d.declared (slice_get tokens 0) (slice_get tokens 1)) (read_load d name tokens) (read_assigned_value d name tokens)
+    (choice_stays (round d) (begins_word (scope_in d) (slice_get tokens 0) (slice_get tokens 1)) (read_load d name tokens) (read_assigned_value d name tokens)
     (load_stays d name tokens) (value_stays d name tokens))
 
 private_stays : (d : Drafted) (tokens : List Token) → Stays (round d) (read_private_assignment d tokens)
@@ -140,12 +141,36 @@ private_stays d tokens =
     (λ name. stays (round d) (past_sign (drop 1 tokens) Assign) _
     (λ rest. assigned_stays (with_names name.1 d) (index_in name.0) rest))
 
+row_value_stays : (d : Drafted) (first : ℕ) (elements : DraftElements) (tokens : List Token) → Stays (round d) (read_row_value d first elements tokens)
+row_value_stays d first elements tokens =
+    stays (round d) (read_value (scope_in d) d.names (value_tokens tokens)) _
+    (λ v. choice_stays (round d) (is_over (value_rest tokens)) _ None refl tt)
+
+element_stays : (d : Drafted) (first : ℕ) (size : Term) (tokens : List Token) → Stays (round d) (read_element_set d first size tokens)
+element_stays d first size tokens =
+    stays (round d) (read_brackets (scope_in d) d.names tokens) _
+    (λ i. stays (round d) (past_sign i.1 Assign) _
+    (λ rest. row_value_stays (with_names i.2 d) first (ElementAt (Joined Within i.0 size)) rest))
+
+all_stays : (d : Drafted) (first : ℕ) (size : Term) (tokens : List Token) → Stays (round d) (read_all_set d first size tokens)
+all_stays d first size tokens =
+    stays (round d) (past_sign tokens Assign) _
+    (λ rest. choice_stays (round d) (begins_access (scope_in d) rest) None (read_row_value d first (AllElements size) rest) tt
+    (row_value_stays d first (AllElements size) rest))
+
+set_stays : (d : Drafted) (tokens : List Token) (r : Option (ℕ × Term)) → Stays (round d) (read_private_set d tokens r)
+set_stays d tokens None =
+    choice_stays (round d) (is_the_sign (slice_get tokens 1) OpenIndex) None _ tt
+    (choice_stays (round d) (is_the_sign (slice_get tokens 1) Assign) (read_private_assignment d tokens) None (private_stays d tokens) tt)
+set_stays d tokens (Some row) =
+    choice_stays (round d) (is_the_sign (slice_get (drop 1 tokens) 0) OpenIndex) (read_element_set d row.0 row.1 (drop 1 tokens)) (read_all_set d row.0 row.1 (drop 1 tokens))
+    (element_stays d row.0 row.1 (drop 1 tokens)) (all_stays d row.0 row.1 (drop 1 tokens))
+
 assignment_stays : (d : Drafted) (tokens : List Token) → Stays (round d) (read_assignment d tokens)
 assignment_stays d tokens =
     stays (round d) (letters_of (slice_get tokens 0)) _
     (λ first. choice_stays (round d) (is_among d.declared first) (read_store d tokens) _ (store_stays d tokens)
-    (choice_stays (round d) (is_the_sign (slice_get tokens 1) OpenIndex) None _ tt
-    (choice_stays (round d) (is_the_sign (slice_get tokens 1) Assign) (read_private_assignment d tokens) None (private_stays d tokens) tt)))
+    (set_stays d tokens (row_read (scope_in d) first)))
 
 done_stays : (d : Drafted) (rest : List Token) (answer : List ℕ) → Stays (round d) (read_done d rest answer)
 done_stays d rest answer = choice_stays (round d) (is_over rest) _ None refl tt

@@ -13,7 +13,7 @@ use Rattle.algorithm_texts.specs.declared.lines.CallRead.{CallRead}
 use Rattle.algorithm_texts.specs.declared.lines.Jump.{Jump}
 use Rattle.algorithm_texts.specs.declared.lines.Label.{Label}
 use Rattle.algorithm_texts.specs.Parts.{◌>>=◌}
-use Rattle.algorithm_texts.specs.Drafts.{LineForm, Accessing, Assigning, Noting, Going, Branching, Beginning, Repeating, Ending, PlacedLine, form_with_place, leading, form_of, line_of}
+use Rattle.algorithm_texts.specs.Drafts.{LineForm, Accessing, Assigning, SettingRow, Noting, Going, Branching, Beginning, Repeating, Ending, PlacedLine, form_with_place, leading, form_of, line_of}
 use Rattle.algorithm_texts.specs.FinishedDrafts.{is_within, target_of, jump_led, jumps_led}
 use Rattle.algorithm_texts.specs.TextFaults.{StaysAt, has_no_line, number_at, number_where, leads_nowhere, unfit_kind}
 use Rattle.algorithm_texts.specs.Usage.{may_withdraw, uses, passes_at}
@@ -147,6 +147,7 @@ found_here test xs i x less at t =
 pub kind_same : (form : LineForm) → unfit_kind (form_with_place 0 form) ≡ unfit_kind form
 kind_same (Accessing a) = refl
 kind_same (Assigning k value) = refl
+kind_same (SettingRow row elements value) = refl
 kind_same (Noting deed) = refl
 kind_same (Going place) = refl
 kind_same (Branching condition otherwise) = refl
@@ -157,6 +158,7 @@ kind_same (Ending answer) = refl
 pub withdraw_same : (form : LineForm) → may_withdraw (form_with_place 0 form) ≡ may_withdraw form
 withdraw_same (Accessing a) = refl
 withdraw_same (Assigning k value) = refl
+withdraw_same (SettingRow row elements value) = refl
 withdraw_same (Noting deed) = refl
 withdraw_same (Going place) = refl
 withdraw_same (Branching condition otherwise) = refl

@@ -11,7 +11,7 @@ use Rattle.algorithm_texts.specs.Fronts.{is_me}
 use Rattle.algorithm_texts.specs.Drafts.{Drafted, FactForm}
 use Rattle.algorithm_texts.specs.LineFaults.{fact_fault, facts_fault, fault_from}
 use Rattle.algorithm_texts.specs.LineDrafts.{scope_in, with_names}
-use Rattle.algorithm_texts.specs.NeverClaims.{FactsRead, begins_test, fact_letters, no_facts, read_claim, read_claimed_condition, read_fact, read_facts, read_never, read_processes, with_claim, with_fact, with_facts_read}
+use Rattle.algorithm_texts.specs.NeverClaims.{FactsRead, without_rows, begins_test, fact_letters, no_facts, read_claim, read_claimed_condition, read_fact, read_facts, read_never, read_processes, with_claim, with_fact, with_facts_read}
 
 abbrev one_more_fact : FactForm → List Token → FactsRead → FactsRead
 one_more_fact fact tokens r =
@@ -23,14 +23,14 @@ one_more_fact fact tokens r =
     }
 
 -- where there is a name left, the fact is added
-pub fact_made : (fact : FactForm) (tokens : List Token) (r now : FactsRead) → length r.names < 32 → now.tokens ≡ Word (fact_letters (length r.names)) ∷ tokens → now.facts ≡ r.facts ++ fact ∷ []
+pub fact_made : (fact : FactForm) (tokens : List Token) (r now : FactsRead) → length r.names < 64 → now.tokens ≡ Word (fact_letters (length r.names)) ∷ tokens → now.facts ≡ r.facts ++ fact ∷ []
     → now.names ≡ r.names ++ fact_letters (length r.names) ∷ [] → now.labels ≡ r.labels → with_fact fact tokens r ≡ Some now
 fact_made fact tokens r now few t f n l =
-    ap (λ (b : Bool). if b then Some (one_more_fact fact tokens r) else None) (lt-ltb (length r.names) 32 few)
+    ap (λ (b : Bool). if b then Some (one_more_fact fact tokens r) else None) (lt-ltb (length r.names) 64 few)
     ∙ sym (λ i. Some (record { tokens = t i; facts = f i; names = n i; labels = l i }))
 
-pub fact_refused : (fact : FactForm) (tokens : List Token) (r : FactsRead) → 32 ≤ length r.names → with_fact fact tokens r ≡ None
-fact_refused fact tokens r many = ap (λ (b : Bool). if b then Some (one_more_fact fact tokens r) else None) (le-ltb (length r.names) 32 many)
+pub fact_refused : (fact : FactForm) (tokens : List Token) (r : FactsRead) → 64 ≤ length r.names → with_fact fact tokens r ≡ None
+fact_refused fact tokens r many = ap (λ (b : Bool). if b then Some (one_more_fact fact tokens r) else None) (le-ltb (length r.names) 64 many)
 
 -- the tokens before the first one are those that are read before it
 pub facts_step : (d : Drafted) (r : FactsRead) (names : Bool) (tokens : List Token) (token : Token) → slice_get tokens 0 ≡ Some token
@@ -58,9 +58,9 @@ claim_made d now start r tokens condition free begun facts kept made =
     ∙ ap (λ (o : Option Formula). o >>= (λ y. Some (r, y))) (subst (λ (n : Drafted). read_claimed_condition n r ≡ Some condition) kept made)
 
 -- its processes, and then all else
-pub never_made : (d now : Drafted) (tokens rest : List Token) (names : List (List ℕ)) (r : FactsRead) (condition : Formula) → read_processes (scope_in d) tokens ≡ Some (names, rest)
-    → read_claim (with_names names d) rest ≡ Some (r, condition) → now ≡ with_claim (length names) r condition d → read_never d tokens ≡ Some now
+pub never_made : (d now : Drafted) (tokens rest : List Token) (names : List (List ℕ)) (r : FactsRead) (condition : Formula) → read_processes (scope_in (without_rows d)) tokens ≡ Some (names, rest)
+    → read_claim (with_names names (without_rows d)) rest ≡ Some (r, condition) → now ≡ with_claim (length names) r condition d → read_never d tokens ≡ Some now
 never_made d now tokens rest names r condition processes claim made =
-    ap (λ (o : Option (List (List ℕ) × List Token)). o >>= (λ x. read_claim (with_names x.0 d) x.1 >>= (λ y. Some (with_claim (length x.0) y.0 y.1 d)))) processes
+    ap (λ (o : Option (List (List ℕ) × List Token)). o >>= (λ x. read_claim (with_names x.0 (without_rows d)) x.1 >>= (λ y. Some (with_claim (length x.0) y.0 y.1 d)))) processes
     ∙ ap (λ (o : Option (FactsRead × Formula)). o >>= (λ y. Some (with_claim (length names) y.0 y.1 d))) claim
     ∙ ap (λ (x : Drafted). Some x) (sym made)

@@ -1,17 +1,17 @@
 -- What the grammar says of tokens is what is read from them.
-use Rattle.std.proofs.Common.{◌≡◌, ◌⊎◌, inl, inr, ℕ, ◌+◌, ◌<◌, ◌≤◌, Bool, true, false, cond, leb, List, [], ◌∷◌, ◌++◌, Option, Some, None, refl, sym, ap, ◌∙◌, subst, codes, bytes_eq, arith}
+use Rattle.std.proofs.Common.{◌≡◌, ◌⊎◌, inl, inr, ℕ, ◌+◌, ◌<◌, ◌≤◌, Bool, true, false, cond, leb, List, [], ◌∷◌, ◌++◌, Option, Some, None, is_some, position, slice_get, ◌||◌, refl, sym, ap, ◌∙◌, subst, codes, bytes_eq, arith}
 use Rattle.std.proofs.lemmas.Bool.{lt-leb, le-leb, leb-true, lt-ltb}
 use Rattle.std.proofs.lemmas.Slice.Eq.{bytes_eq-Decides}
-use Rattle.algorithm_texts.specs.declared.tokens.Sign.TheVariants.{Open, Close, Comma}
+use Rattle.algorithm_texts.specs.declared.tokens.Sign.TheVariants.{Open, Close, OpenIndex, CloseIndex, Comma}
 use Rattle.algorithm_texts.specs.declared.tokens.Token.{Token}
 use Rattle.algorithm_texts.specs.declared.tokens.Token.TheVariants.{Number as NumberToken, Word, Sign}
 use Rattle.algorithm_texts.specs.declared.operands.Bracket.{Bracket}
 use Rattle.algorithm_texts.specs.declared.operands.Bracket.TheVariants.{Plain, Not, Max, Min}
 use Rattle.algorithm_texts.specs.declared.operands.Joint.{Joint}
 use Rattle.algorithm_texts.specs.declared.operands.Joint.TheVariants.{Operator as ByOperator, Comparison as ByComparison, And, Or}
-use Rattle.algorithm_texts.specs.Parts.{OperandPart, Value, Number, join_of, enclosed_part, enclosed_two, ◌>>=◌}
-use Rattle.algorithm_texts.specs.Grammar.{Scope, Tree, Numeral, Name, One, Two, Between, head_tokens, joint_token, tokens_of_tree, strength, Binds, depth, is_among, word_value, meaning, Says}
-use Rattle.algorithm_texts.specs.Stacks.{Waits, Joining, Opened, Halfway, Begins, Follows, OperandReading, reading, brackets, stack_reduction, head_of, reading_after_word, reading_after_value, enclosing, closes, halves, joining, reading_after_part, turn, run, sole_part, part_at_end, read_part}
+use Rattle.algorithm_texts.specs.Parts.{Term, OperandPart, Value, Number, Me, Procs, Limit, join_of, enclosed_part, enclosed_two, ◌>>=◌}
+use Rattle.algorithm_texts.specs.Grammar.{Scope, DraftRow, Tree, Numeral, Name, Indexed, One, Two, Between, head_tokens, joint_token, tokens_of_tree, strength, Binds, depth, is_among, is_row_of, is_row_name, row_named, row_read, element_part, constant_named, named_part, word_value, meaning, Says}
+use Rattle.algorithm_texts.specs.Stacks.{Waits, Joining, Opened, Halfway, Indexing, Begins, Follows, OperandReading, reading, brackets, stack_reduction, head_of, reading_after_word, reading_after_name, reading_after_value, enclosing, closes, closes_index, halves, joining, reading_after_part, turn, run, sole_part, part_at_end, read_part}
 
 -- ---- what is waiting
 
@@ -21,18 +21,21 @@ Ends n [] = Unit {0}
 Ends n (Joining part joint ∷ ws) = strength joint < n
 Ends n (Opened head ∷ ws) = Unit {0}
 Ends n (Halfway head part ∷ ws) = Unit {0}
+Ends n (Indexing first size ∷ ws) = Unit {0}
 
 pub ends_more : (n m : ℕ) (ws : List Waits) → n ≤ m → Ends n ws → Ends m ws
 ends_more n m [] le h = tt
 ends_more n m (Joining part joint ∷ ws) le h = omega arith
 ends_more n m (Opened head ∷ ws) le h = tt
 ends_more n m (Halfway head part ∷ ws) le h = tt
+ends_more n m (Indexing first size ∷ ws) le h = tt
 
 pub stays : (n : ℕ) (ws : List Waits) (part : OperandPart) → Ends n ws → stack_reduction n ws part ≡ Some (ws, part)
 stays n [] part h = refl
 stays n (Joining left joint ∷ ws) part h = rw (lt-leb n (strength joint) h) refl
 stays n (Opened head ∷ ws) part h = refl
 stays n (Halfway head first ∷ ws) part h = refl
+stays n (Indexing first size ∷ ws) part h = refl
 
 -- what is joined down to the stronger operators can be joined on
 abbrev again : ℕ → List Waits × OperandPart → Option (List Waits × OperandPart)
@@ -57,6 +60,7 @@ twice n m (Joining left joint ∷ ws) part le =
     twice_at n m left joint ws part (leb m (strength joint)) refl le (λ o. twice_joined n m ws o (λ q. twice n m ws q le))
 twice n m (Opened head ∷ ws) part le = refl
 twice n m (Halfway head first ∷ ws) part le = refl
+twice n m (Indexing first size ∷ ws) part le = refl
 
 -- ---- a list of tokens after another
 
@@ -71,9 +75,14 @@ run_append scope (x ∷ xs) ys r = append_bind scope xs ys (turn scope r x) (λ 
 
 -- ---- a tree is read
 
--- the words before brackets are words of the format
-abbrev pub KnowsHeads : Scope → Type 0
-KnowsHeads scope = (is_among scope.reserved (codes "not") ≡ true) × (is_among scope.reserved (codes "max") ≡ true) × (is_among scope.reserved (codes "min") ≡ true)
+-- the words before brackets are words of the format, and so are its numbers
+pub record KnowsHeads (scope : Scope) : Type 0 where
+  pub not_word : is_among scope.reserved (codes "not") ≡ true
+  pub max_word : is_among scope.reserved (codes "max") ≡ true
+  pub min_word : is_among scope.reserved (codes "min") ≡ true
+  pub me_word : is_among scope.reserved (codes "me") ≡ true
+  pub procs_word : is_among scope.reserved (codes "procs") ≡ true
+  pub limit_word : is_among scope.reserved (codes "limit") ≡ true
 
 -- after these tokens the part is read, up to joining it with operators at least this strong
 pub record Comes (scope : Scope) (n : ℕ) (ws : List Waits) (tokens : List Token) (names : List (List ℕ)) (part : OperandPart) (after : List (List ℕ)) : Type 0 where
@@ -91,20 +100,23 @@ at_once : (scope : Scope) (n : ℕ) (ws : List Waits) (tokens : List Token) (nam
     → run scope tokens (reading names ws Begins) ≡ Some (reading after ws (Follows part)) → Comes scope n ws tokens names part after
 at_once scope n ws tokens names part after h e = record { waiting = ws; last = part; runs = e; reduces = stays n ws part h }
 
-valued_so : (scope : Scope) (n : ℕ) (ws : List Waits) (word : List ℕ) (names : List (List ℕ)) (o : Option (OperandPart × List (List ℕ))) → Ends n ws → word_value scope names word ≡ o → head_of word ≡ None
+valued_so : (scope : Scope) (n : ℕ) (ws : List Waits) (word : List ℕ) (names : List (List ℕ)) (o : Option (OperandPart × List (List ℕ))) → Ends n ws → word_value scope names word ≡ o → head_of word ≡ None → row_read scope word ≡ None
     → Reads scope n ws (Word word ∷ []) names o
-valued_so scope n ws word names None h e plain = tt
-valued_so scope n ws word names (Some x) h e plain =
-    at_once scope n ws (Word word ∷ []) names x.0 x.1 h (ap (λ o. reading_after_word scope names ws word o >>= run scope []) plain ∙ ap (λ o. reading_after_value ws o >>= run scope []) e)
+valued_so scope n ws word names None h e plain none = tt
+valued_so scope n ws word names (Some x) h e plain none =
+    at_once scope n ws (Word word ∷ []) names x.0 x.1 h
+    (ap (λ o. reading_after_word scope names ws word o >>= run scope []) plain
+    ∙ ap (λ r. reading_after_name scope names ws word r >>= run scope []) none
+    ∙ ap (λ o. reading_after_value ws o >>= run scope []) e)
 
 not_value : (scope : Scope) → KnowsHeads scope → (names : List (List ℕ)) → word_value scope names (codes "not") ≡ None
-not_value scope h names = rw h.0 refl
+not_value scope h names = rw h.not_word refl
 
 max_value : (scope : Scope) → KnowsHeads scope → (names : List (List ℕ)) → word_value scope names (codes "max") ≡ None
-max_value scope h names = rw h.1 refl
+max_value scope h names = rw h.max_word refl
 
 min_value : (scope : Scope) → KnowsHeads scope → (names : List (List ℕ)) → word_value scope names (codes "min") ≡ None
-min_value scope h names = rw h.2 refl
+min_value scope h names = rw h.min_word refl
 
 pub is_word : (word other : List ℕ) → bytes_eq word other ≡ true → word ≡ other
 is_word word other e = (bytes_eq-Decides word other).0 e
@@ -117,10 +129,62 @@ no_value scope h names word false true c x y z = inl (ap (word_value scope names
 no_value scope h names word false false true x y z = inl (ap (word_value scope names) (is_word word (codes "min") z) ∙ min_value scope h names)
 no_value scope h names word false false false x y z = inr (rw (x, y, z) refl)
 
-name_read : (scope : Scope) (n : ℕ) (ws : List Waits) (word : List ℕ) (names : List (List ℕ)) → Ends n ws → (word_value scope names word ≡ None) ⊎ (head_of word ≡ None)
+-- ---- names of rows
+
+-- a word of the format names no row
+no_row : (scope : Scope) (word other : List ℕ) (row : ℕ × Term) → is_among scope.reserved other ≡ true → row_read scope word ≡ Some row → word ≡ other → ⊥
+no_row scope word other row reserved is same =
+    let none : row_read scope other ≡ None = ap (λ b. cond b None (row_named scope.rows other)) reserved in
+    let h : None ≡ Some row = sym none ∙ ap (row_read scope) (sym same) ∙ is in
+    cc
+
+other_word : (scope : Scope) (word other : List ℕ) (row : ℕ × Term) (b : Bool) → is_among scope.reserved other ≡ true → row_read scope word ≡ Some row → bytes_eq word other ≡ b → b ≡ false
+other_word scope word other row true reserved is e = absurd (no_row scope word other row reserved is (is_word word other e))
+other_word scope word other row false reserved is e = refl
+
+no_head : (scope : Scope) → KnowsHeads scope → (word : List ℕ) (row : ℕ × Term) → row_read scope word ≡ Some row → head_of word ≡ None
+no_head scope k word row is =
+    let a = other_word scope word (codes "not") row (bytes_eq word (codes "not")) k.not_word is refl in
+    let b = other_word scope word (codes "max") row (bytes_eq word (codes "max")) k.max_word is refl in
+    let c = other_word scope word (codes "min") row (bytes_eq word (codes "min")) k.min_word is refl in
+    rw (a, b, c) refl
+
+row_there : (rows : List DraftRow) (o : Option ℕ) (row : ℕ × Term) → (o >>= λ k. (slice_get rows k >>= λ r. Some (r.first, r.size))) ≡ Some row → is_some o ≡ true
+row_there rows None row e = absurd (cc)
+row_there rows (Some k) row e = refl
+
+row_among : (scope : Scope) (word : List ℕ) (row : ℕ × Term) (b : Bool) → cond b None (row_named scope.rows word) ≡ Some row → is_row_name scope.rows word ≡ true
+row_among scope word row true e = absurd (cc)
+row_among scope word row false e = row_there scope.rows (position (is_row_of word) scope.rows) row e
+
+or_last : (a b c : Bool) → c ≡ true → a || (b || c) ≡ true
+or_last true b c e = refl
+or_last false true c e = refl
+or_last false false c e = e
+
+value_at : (a b c d : Bool) (x y z w : Option (OperandPart × List (List ℕ))) → a ≡ false → b ≡ false → c ≡ false → d ≡ true → cond a x (cond b y (cond c z (cond d None w))) ≡ None
+value_at a b c d x y z w p q r s =
+    ap (λ t. cond t x (cond b y (cond c z (cond d None w)))) p ∙ ap (λ t. cond t y (cond c z (cond d None w))) q ∙ ap (λ t. cond t z (cond d None w)) r ∙ ap (λ t. cond t None w) s
+
+-- the name of a row alone is no value
+row_value : (scope : Scope) → KnowsHeads scope → (names : List (List ℕ)) (word : List ℕ) (row : ℕ × Term) → row_read scope word ≡ Some row → word_value scope names word ≡ None
+row_value scope k names word row is =
+    let a = other_word scope word (codes "me") row (bytes_eq word (codes "me")) k.me_word is refl in
+    let b = other_word scope word (codes "procs") row (bytes_eq word (codes "procs")) k.procs_word is refl in
+    let c = other_word scope word (codes "limit") row (bytes_eq word (codes "limit")) k.limit_word is refl in
+    let d = or_last (is_among scope.reserved word) (is_among scope.declared word) (is_row_name scope.rows word) (row_among scope word row (is_among scope.reserved word) is) in
+    value_at (bytes_eq word (codes "me")) (bytes_eq word (codes "procs")) (bytes_eq word (codes "limit")) (is_among scope.reserved word || (is_among scope.declared word || is_row_name scope.rows word))
+    (Some (Value Me, names)) (Some (Value Procs, names)) (Some (Value Limit, names)) (named_part scope names word (constant_named scope.constants word)) a b c d
+
+named_so : (scope : Scope) → KnowsHeads scope → (n : ℕ) (ws : List Waits) (word : List ℕ) (names : List (List ℕ)) (r : Option (ℕ × Term)) → Ends n ws → head_of word ≡ None → row_read scope word ≡ r
     → Reads scope n ws (Word word ∷ []) names (word_value scope names word)
-name_read scope n ws word names h (inl e) = subst (Reads scope n ws (Word word ∷ []) names) (sym e) tt
-name_read scope n ws word names h (inr e) = valued_so scope n ws word names (word_value scope names word) h refl e
+named_so scope k n ws word names None h plain is = valued_so scope n ws word names (word_value scope names word) h refl plain is
+named_so scope k n ws word names (Some row) h plain is = subst (Reads scope n ws (Word word ∷ []) names) (sym (row_value scope k names word row is)) tt
+
+name_read : (scope : Scope) → KnowsHeads scope → (n : ℕ) (ws : List Waits) (word : List ℕ) (names : List (List ℕ)) → Ends n ws → (word_value scope names word ≡ None) ⊎ (head_of word ≡ None)
+    → Reads scope n ws (Word word ∷ []) names (word_value scope names word)
+name_read scope k n ws word names h (inl e) = subst (Reads scope n ws (Word word ∷ []) names) (sym e) tt
+name_read scope k n ws word names h (inr e) = named_so scope k n ws word names (row_read scope word) h e refl
 
 -- a bracket opens
 opens : (scope : Scope) (head : Bracket) (names : List (List ℕ)) (ws : List Waits) (rest : List Token) → brackets ws < 16
@@ -154,6 +218,37 @@ one_read : (scope : Scope) (n : ℕ) (ws : List Waits) (head : Bracket) (tree : 
     → Reads scope n ws (tokens_of_tree (One head tree)) names (o >>= λ x. (enclosed_part head x.0 >>= λ q. Some (q, x.1)))
 one_read scope n ws head tree names None few h c = tt
 one_read scope n ws head tree names (Some x) few h c = one_closed scope n ws head tree names x.0 x.1 (enclosed_part head x.0) few h refl c
+
+-- the index of a row opens
+row_opens : (scope : Scope) (names : List (List ℕ)) (ws : List Waits) (word : List ℕ) (row : ℕ × Term) (rest : List Token) → brackets ws < 16 → head_of word ≡ None → row_read scope word ≡ Some row
+    → run scope (Word word ∷ (Sign OpenIndex ∷ rest)) (reading names ws Begins) ≡ run scope rest (reading names (Indexing row.0 row.1 ∷ ws) Begins)
+row_opens scope names ws word row rest few plain is =
+    ap (λ o. reading_after_word scope names ws word o >>= run scope (Sign OpenIndex ∷ rest)) plain
+    ∙ ap (λ r. reading_after_name scope names ws word r >>= run scope (Sign OpenIndex ∷ rest)) is
+    ∙ rw (lt-ltb (brackets ws) 16 few) refl
+
+indexed_closed : (scope : Scope) (n : ℕ) (ws : List Waits) (word : List ℕ) (row : ℕ × Term) (tree : Tree) (names : List (List ℕ)) (part : OperandPart) (after : List (List ℕ)) (o : Option OperandPart) → brackets ws < 16 → Ends n ws
+    → head_of word ≡ None → row_read scope word ≡ Some row → element_part row.0 row.1 part ≡ o → Comes scope 1 (Indexing row.0 row.1 ∷ ws) (tokens_of_tree tree) names part after
+    → Reads scope n ws (tokens_of_tree (Indexed word tree)) names (o >>= λ q. Some (q, after))
+indexed_closed scope n ws word row tree names part after None few h plain is e c = tt
+indexed_closed scope n ws word row tree names part after (Some q) few h plain is e c =
+    at_once scope n ws (tokens_of_tree (Indexed word tree)) names q after h
+    (row_opens scope names ws word row (tokens_of_tree tree ++ (Sign CloseIndex ∷ [])) few plain is
+    ∙ after_part scope 1 (Indexing row.0 row.1 ∷ ws) (tokens_of_tree tree) (Sign CloseIndex ∷ []) names part after c
+    ∙ ap (λ o. (o >>= λ r. closes_index after r.0 r.1) >>= run scope []) c.reduces
+    ∙ ap (λ o. enclosing after ws o >>= run scope []) e)
+
+indexed_read : (scope : Scope) (n : ℕ) (ws : List Waits) (word : List ℕ) (row : ℕ × Term) (tree : Tree) (names : List (List ℕ)) (o : Option (OperandPart × List (List ℕ))) → brackets ws < 16 → Ends n ws
+    → head_of word ≡ None → row_read scope word ≡ Some row → Reads scope 1 (Indexing row.0 row.1 ∷ ws) (tokens_of_tree tree) names o
+    → Reads scope n ws (tokens_of_tree (Indexed word tree)) names (o >>= λ x. (element_part row.0 row.1 x.0 >>= λ q. Some (q, x.1)))
+indexed_read scope n ws word row tree names None few h plain is c = tt
+indexed_read scope n ws word row tree names (Some x) few h plain is c = indexed_closed scope n ws word row tree names x.0 x.1 (element_part row.0 row.1 x.0) few h plain is refl c
+
+indexed_by : (scope : Scope) → KnowsHeads scope → (n : ℕ) (ws : List Waits) (word : List ℕ) (tree : Tree) (names : List (List ℕ)) (r : Option (ℕ × Term)) → row_read scope word ≡ r → brackets ws < 16 → Ends n ws
+    → ((row : ℕ × Term) → Reads scope 1 (Indexing row.0 row.1 ∷ ws) (tokens_of_tree tree) names (meaning scope tree names))
+    → Reads scope n ws (tokens_of_tree (Indexed word tree)) names (r >>= λ row. (meaning scope tree names >>= λ x. (element_part row.0 row.1 x.0 >>= λ q. Some (q, x.1))))
+indexed_by scope k n ws word tree names None is few h c = tt
+indexed_by scope k n ws word tree names (Some row) is few h c = indexed_read scope n ws word row tree names (meaning scope tree names) few h (no_head scope k word row is) is (c row)
 
 -- the bracket takes a comma
 abbrev Halves : Bracket → Type 0
@@ -236,7 +331,9 @@ pub tree_read : (scope : Scope) → KnowsHeads scope → (tree : Tree) (n : ℕ)
     → Reads scope n ws (tokens_of_tree tree) names (meaning scope tree names)
 tree_read scope k (Numeral m) n ws names binds few h = at_once scope n ws (NumberToken m ∷ []) names (Value (Number m)) names h refl
 tree_read scope k (Name word) n ws names binds few h =
-    name_read scope n ws word names h (no_value scope k names word (bytes_eq word (codes "not")) (bytes_eq word (codes "max")) (bytes_eq word (codes "min")) refl refl refl)
+    name_read scope k n ws word names h (no_value scope k names word (bytes_eq word (codes "not")) (bytes_eq word (codes "max")) (bytes_eq word (codes "min")) refl refl refl)
+tree_read scope k (Indexed word tree) n ws names binds few h =
+    indexed_by scope k n ws word tree names (row_read scope word) refl (omega arith) h (λ row. tree_read scope k tree 1 (Indexing row.0 row.1 ∷ ws) names binds (omega arith) tt)
 tree_read scope k (One head tree) n ws names binds few h =
     one_read scope n ws head tree names (meaning scope tree names) (omega arith) h (tree_read scope k tree 1 (Opened head ∷ ws) names binds (omega arith) tt)
 tree_read scope k (Two Not a b) n ws names binds few h = two_of_not scope n ws a b names (tokens_of_tree (Two Not a b)) (meaning scope a names)

@@ -11,8 +11,8 @@ use Rattle.algorithms.specs.declared.line.AlgorithmLine.{AlgorithmLine}
 use Rattle.algorithms.specs.declared.line.LineKind.{LineKind}
 use Rattle.algorithms.specs.declared.line.LineKind.TheVariants.{Access, Local, Done}
 use Rattle.algorithms.specs.declared.line.LocalLine.{LocalLine}
-use Rattle.algorithms.specs.declared.line.LocalLine.TheVariants.{Assign, Note, Goto, Branch, First, Next}
-use Rattle.algorithms.specs.declared.expression.Expression.{Expression, Number, Private, Me, Procs, Limit, Joined'}
+use Rattle.algorithms.specs.declared.line.LocalLine.TheVariants.{Assign, AssignRow, Note, Goto, Branch, First, Next}
+use Rattle.algorithms.specs.declared.expression.Expression.{Expression, Number, Private, Element', Me, Procs, Limit, Joined'}
 use Rattle.algorithms.specs.declared.line.Members.{Members}
 use Rattle.algorithms.specs.declared.line.Members.TheVariants.{All as AllMembers, Others, Lower, Higher, Up, Down}
 use Rattle.algorithms.specs.Ranked.{rank_of, is_below, is_line_below, literal_of, least_joined, least_value, is_at_most, has_round, ways_pass, is_line, is_line_at, form_falls, AllFall, LocalLinesEnd, AccessesLeadOn}
@@ -42,6 +42,7 @@ first_leads w ws = or_left (eqb w w) (leads_to ws w) (eq-eqb w w refl)
 literal_same : (e : Expression) → literal_in (term_of e) ≡ literal_of e
 literal_same (Number n) = refl
 literal_same (Private k) = refl
+literal_same (Element' row p index) = refl
 literal_same Me = refl
 literal_same Procs = refl
 literal_same Limit = refl
@@ -50,6 +51,7 @@ literal_same (Joined' o p a q b) = refl
 least_same : (least : ℕ) (e : Expression) → least_term least (term_of e) ≡ least_value least e
 least_same least (Number n) = refl
 least_same least (Private k) = refl
+least_same least (Element' row p index) = refl
 least_same least Me = refl
 least_same least Procs = refl
 least_same least Limit = refl
@@ -76,6 +78,7 @@ same_round least (Down a b) =
 ways_all : (test begins : ℕ → Bool) (least next : ℕ) (l : LocalLine) → ((w : ℕ) → leads_to (forward_ways least next (local_form l)) w ≡ true → test w ≡ true)
     → ((w : ℕ) → leads_to (ways least next (local_form l)) w ≡ true → begins w ≡ true) → ways_pass test begins least next l ≡ true
 ways_all test begins least next (Assign name value) h back = h next (first_leads next [])
+ways_all test begins least next (AssignRow row elements value) h back = h next (first_leads next [])
 ways_all test begins least next (Note deed) h back = h next (first_leads next [])
 ways_all test begins least next (Goto place) h back = h place (first_leads place [])
 ways_all test begins least next (Branch condition otherwise) h back =
@@ -147,6 +150,7 @@ line_there lines w other within = ap is_line (slice_get-get_or lines w other wit
 local_is : (l : LocalLine) → is_local_form (local_form l) ≡ true
 unfolding is_local_form
 local_is (Assign name value) = refl
+local_is (AssignRow row elements value) = refl
 local_is (Note deed) = refl
 local_is (Goto place) = refl
 local_is (Branch condition otherwise) = refl
@@ -158,6 +162,7 @@ ending_falls : (lines : List AlgorithmLine) (least : ℕ) (ranks : List ℕ) (pl
     → form_falls lines least ranks place form ≡ true
 ending_falls lines least ranks place (Access a) k e = absurd (cc)
 ending_falls lines least ranks place (Local (Assign name value)) k e = absurd (cc)
+ending_falls lines least ranks place (Local (AssignRow row elements value)) k e = absurd (cc)
 ending_falls lines least ranks place (Local (Note deed)) k e = absurd (cc)
 ending_falls lines least ranks place (Local (Goto to)) k e = absurd (cc)
 ending_falls lines least ranks place (Local (Branch condition otherwise)) k e = absurd (cc)

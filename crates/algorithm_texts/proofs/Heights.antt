@@ -5,7 +5,7 @@ use Rattle.std.proofs.lemmas.Bool.{false≢true, ltb-true, ltb-false, eqb-true, 
 use Rattle.std.proofs.lemmas.List.FromFn.{get_or-map-range_with_len}
 use Rattle.algorithm_texts.specs.declared.flow.RunKind.TheVariants.{All, Forward}
 use Rattle.algorithm_texts.specs.declared.lines.CallRead.{CallRead}
-use Rattle.algorithm_texts.specs.Drafts.{LineForm, Accessing, Assigning, Noting, Going, Branching, Beginning, Repeating, Ending, PlacedLine, Drafted}
+use Rattle.algorithm_texts.specs.Drafts.{LineForm, Accessing, Assigning, SettingRow, Noting, Going, Branching, Beginning, Repeating, Ending, PlacedLine, Drafted}
 use Rattle.algorithm_texts.specs.FinishedDrafts.{loop_has_round, is_within, ways}
 use Rattle.algorithm_texts.specs.Runs.{forward_ways, ways_after, ways_from, leads_to, is_access, is_line_in, IsPlaceReached, RunsStay, NoneReturns}
 use Rattle.algorithm_texts.proofs.RunMarks.{both_true, true_or_false, or_left, or_right, either, comes_on}
@@ -107,6 +107,7 @@ local_leads : (least next : ℕ) (form : LineForm) → is_local_form form ≡ tr
 unfolding is_local_form
 local_leads least next (Accessing a) h = absurd (false≢true h)
 local_leads least next (Assigning name value) h = (next, or_left (eqb next next) false (eq-eqb next next refl))
+local_leads least next (SettingRow row elements value) h = (next, or_left (eqb next next) false (eq-eqb next next refl))
 local_leads least next (Noting deed) h = (next, or_left (eqb next next) false (eq-eqb next next refl))
 local_leads least next (Going place) h = (place, or_left (eqb place place) false (eq-eqb place place refl))
 local_leads least next (Branching condition otherwise) h = (next, or_left (eqb next next) (eqb otherwise next || false) (eq-eqb next next refl))
@@ -121,6 +122,7 @@ pub local_silent : (form : LineForm) → is_local_form form ≡ true → is_acce
 unfolding is_local_form
 local_silent (Accessing a) h = absurd (false≢true h)
 local_silent (Assigning name value) h = refl
+local_silent (SettingRow row elements value) h = refl
 local_silent (Noting deed) h = refl
 local_silent (Going place) h = refl
 local_silent (Branching condition otherwise) h = refl

@@ -2,6 +2,7 @@ pub mod Numerals
 pub mod LineTokens
 pub mod Replies
 pub mod Complete
+pub mod Standing
 pub mod Sound
 pub mod Places
 pub mod Stacked
@@ -37,3 +38,4 @@ pub mod RedirectFaults
 pub mod FormFaults
 pub mod SameAlgorithms
 pub mod SameItems
+pub mod PromiseLists

@@ -7,7 +7,7 @@ use Rattle.algorithms.specs.declared.line.AlgorithmDeed.{AlgorithmDeed}
 use Rattle.algorithms.specs.declared.line.AlgorithmLine.{AlgorithmLine}
 use Rattle.algorithms.specs.declared.line.LineKind.{LineKind}
 use Rattle.algorithms.specs.declared.line.LineKind.TheVariants.{Access, Local, Done}
-use Rattle.algorithms.specs.declared.line.LocalLine.TheVariants.{Assign, Note, Goto, Branch, First, Next}
+use Rattle.algorithms.specs.declared.line.LocalLine.TheVariants.{Assign, AssignRow, Note, Goto, Branch, First, Next}
 use Rattle.algorithms.specs.Deeds.{IsLineOf, SaysDeed}
 use Rattle.algorithm_texts.specs.Drafts.{Noting, Ending, PlacedLine, Drafted, form_of, line_of, lines_of}
 use Rattle.algorithm_texts.specs.FinishedDrafts.{is_in, is_way}
@@ -29,6 +29,7 @@ note_of false false old deed e = e
 form_noted : (form : LineKind) (deed : AlgorithmDeed) → form_of form ≡ Noting deed → form ≡ Local (Note deed)
 form_noted (Access a) deed e = absurd (cc)
 form_noted (Local (Assign name value)) deed e = absurd (cc)
+form_noted (Local (AssignRow row elements value)) deed e = absurd (cc)
 form_noted (Local (Note other)) deed e = cc
 form_noted (Local (Goto place)) deed e = absurd (cc)
 form_noted (Local (Branch condition otherwise)) deed e = absurd (cc)

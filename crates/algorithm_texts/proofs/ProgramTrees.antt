@@ -1,5 +1,5 @@
 -- A text that is read is that of a program.
-use Rattle.std.proofs.Common.{◌≡◌, ◌⊎◌, ℕ, Bool, true, false, cond, eqb, ltb, List, [], ◌∷◌, ◌++◌, length, Option, Some, None, IfSome, slice_get, drop, codes, refl, sym, ap, ◌∙◌, subst, inl, inr, append_assoc, arith}
+use Rattle.std.proofs.Common.{◌≡◌, ◌⊎◌, ℕ, Bool, true, false, cond, eqb, ltb, leb, ◌+◌, List, [], ◌∷◌, ◌++◌, length, Option, Some, None, IfSome, slice_get, drop, codes, refl, sym, ap, ◌∙◌, subst, inl, inr, append_assoc, arith}
 use Rattle.std.specs.Prelude.{Vec}
 use Rattle.std.specs.declared.alloc.Global.{Global}
 use Rattle.std.proofs.lemmas.Bool.Decides.{nat_tests}
@@ -8,13 +8,14 @@ use Rattle.std.proofs.lemmas.Option.{slice_get_past, slice_get_read, same_Some}
 use Rattle.algorithm_texts.specs.declared.lines.CallRead.{CallRead}
 use Rattle.algorithm_texts.specs.declared.lines.Draft.{Draft}
 use Rattle.algorithm_texts.specs.declared.lines.Opened.{Opened}
+use Rattle.algorithm_texts.specs.declared.tokens.Sign.TheVariants.{OpenIndex}
 use Rattle.algorithm_texts.specs.declared.tokens.Token.{Token}
 use Rattle.algorithm_texts.specs.Parts.{◌>>=◌}
-use Rattle.algorithm_texts.specs.Fronts.{is_the_word, is_over, named_by}
-use Rattle.algorithm_texts.specs.Drafts.{Drafted, draft_view}
+use Rattle.algorithm_texts.specs.Fronts.{is_the_word, is_the_sign, is_over, named_by}
+use Rattle.algorithm_texts.specs.Drafts.{Drafted, draft_view, with_row}
 use Rattle.algorithm_texts.specs.LineDrafts.{read_statement, scope_in, with_names}
-use Rattle.algorithm_texts.specs.NeverClaims.{claimed_places, read_claim, read_never, read_processes}
-use Rattle.algorithm_texts.specs.TextDrafts.{Spoken, with_number, empty_draft, call_words, has_call, with_call, end_call_in, end_call, ended_calls, read_call, undeclared_name, read_extent, is_array, read_word_values, with_lasting, read_shared, read_private, read_constant_value, read_constant, read_declaration, read_line, read_lines, read_head, read_promises, read_text}
+use Rattle.algorithm_texts.specs.NeverClaims.{claimed_places, read_claim, read_never, read_processes, without_rows}
+use Rattle.algorithm_texts.specs.TextDrafts.{Spoken, with_number, empty_draft, call_words, has_call, with_call, end_call_in, end_call, ended_calls, read_call, undeclared_name, read_extent, is_array, read_word_values, with_lasting, read_shared, read_size, read_row, read_single, read_private, read_constant_value, read_constant, read_declaration, read_line, read_lines, read_head, read_promises, read_text}
 use Rattle.algorithm_texts.specs.TextLines.{TextSays}
 use Rattle.algorithm_texts.specs.Blocks.{Block, lines_in, begins_block, divides, ends, draft_after_block, read_statements}
 use Rattle.algorithm_texts.specs.FinishedDrafts.{finished_draft, with_lines}
@@ -52,11 +53,22 @@ shared_stays d tokens =
     (λ name. on_all (λ now. around now ≡ around d) (cond (ltb (length d.declared) 64) (read_extent (scope_in d) d.names (drop 1 tokens)) None) _
     (λ extent. on_all (λ now. around now ≡ around d) (read_word_values (scope_in d) (is_array extent.0) extent.2 extent.1) _ (λ v. refl)))
 
+single_stays : (d : Drafted) (name : List ℕ) (tokens : List Token) → IfSome (read_single d name tokens) (λ now. around now ≡ around d)
+single_stays d name tokens =
+    if_cond (λ now. around now ≡ around d) (ltb (length d.names) 64) (cond (is_over tokens) (Some (with_lasting name d)) None) None
+    (if_cond (λ now. around now ≡ around d) (is_over tokens) (Some (with_lasting name d)) None refl tt) tt
+
+row_stays : (d : Drafted) (name : List ℕ) (tokens : List Token) → IfSome (read_row d name tokens) (λ now. around now ≡ around d)
+row_stays d name tokens =
+    on_all (λ now. around now ≡ around d) (read_size (scope_in d) d.names tokens) _
+    (λ size. if_cond (λ now. around now ≡ around d) (leb (length d.names + 16) 64) (cond (is_over size.1) (Some (with_row name size.0 (with_names size.2 d))) None) None
+    (if_cond (λ now. around now ≡ around d) (is_over size.1) (Some (with_row name size.0 (with_names size.2 d))) None refl tt) tt)
+
 private_stays : (d : Drafted) (tokens : List Token) → IfSome (read_private d tokens) (λ now. around now ≡ around d)
 private_stays d tokens =
     on_all (λ now. around now ≡ around d) (undeclared_name (scope_in d) d.names (slice_get tokens 0)) _
-    (λ name. if_cond (λ now. around now ≡ around d) (ltb (length d.names) 32) (cond (is_over (drop 1 tokens)) (Some (with_lasting name d)) None) None
-    (if_cond (λ now. around now ≡ around d) (is_over (drop 1 tokens)) (Some (with_lasting name d)) None refl tt) tt)
+    (λ name. if_cond (λ now. around now ≡ around d) (is_the_sign (slice_get tokens 1) OpenIndex) (read_row d name (drop 1 tokens)) (read_single d name (drop 1 tokens))
+    (row_stays d name (drop 1 tokens)) (single_stays d name (drop 1 tokens)))
 
 constant_stays : (d : Drafted) (tokens : List Token) → IfSome (read_constant d tokens) (λ now. around now ≡ around d)
 constant_stays d tokens =
@@ -65,8 +77,8 @@ constant_stays d tokens =
 
 never_stays : (d : Drafted) (tokens : List Token) → IfSome (read_never d tokens) (λ now. around now ≡ around d)
 never_stays d tokens =
-    on_all (λ now. around now ≡ around d) (read_processes (scope_in d) tokens) _
-    (λ processes. on_all (λ now. around now ≡ around d) (read_claim (with_names processes.0 d) processes.1) _ (λ claim. refl))
+    on_all (λ now. around now ≡ around d) (read_processes (scope_in (without_rows d)) tokens) _
+    (λ processes. on_all (λ now. around now ≡ around d) (read_claim (with_names processes.0 (without_rows d)) processes.1) _ (λ claim. refl))
 
 pub declaration_stays : (d : Drafted) (tokens : List Token) → IfSome (read_declaration d tokens) (λ now. around now ≡ around d)
 declaration_stays d tokens =

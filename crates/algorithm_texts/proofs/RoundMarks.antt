@@ -11,7 +11,7 @@ use Rattle.algorithms.specs.declared.fault.ReadFault.TheVariants.{Endless}
 use Rattle.algorithm_texts.specs.declared.flow.RunKind.{RunKind}
 use Rattle.algorithm_texts.specs.declared.flow.RunKind.TheVariants.{All, Forward}
 use Rattle.algorithm_texts.specs.declared.lines.CallRead.{CallRead}
-use Rattle.algorithm_texts.specs.Drafts.{LineForm, Accessing, Assigning, Noting, Going, Branching, Beginning, Repeating, Ending, Drafted, PlacedLine, form_with_place}
+use Rattle.algorithm_texts.specs.Drafts.{LineForm, Accessing, Assigning, SettingRow, Noting, Going, Branching, Beginning, Repeating, Ending, Drafted, PlacedLine, form_with_place}
 use Rattle.algorithm_texts.specs.FinishedDrafts.{is_in, is_marked, is_within, ways}
 use Rattle.algorithm_texts.specs.Marks.{KeepsMarks, MarksReached, and_then, is_free}
 use Rattle.algorithm_texts.specs.Rounds.{IsOnRound, LocalMarked, ReturnsMarked, RoundsMarked, LeadOn, leads_on, is_loose, count_marks}
@@ -38,6 +38,7 @@ way_out d call runs at way t h = ap (λ b. leads_to (cond b (ways_after d.head.l
 pub access_same : (form : LineForm) → is_access (form_with_place 0 form) ≡ is_access form
 access_same (Accessing a) = refl
 access_same (Assigning name value) = refl
+access_same (SettingRow row elements value) = refl
 access_same (Noting deed) = refl
 access_same (Going place) = refl
 access_same (Branching condition otherwise) = refl
@@ -52,6 +53,7 @@ silent_form false ws way h = (h, refl)
 pub forward_is_way : (least next : ℕ) (form : LineForm) (way : ℕ) → leads_to (forward_ways least next form) way ≡ true → leads_to (ways least next form) way ≡ true
 forward_is_way least next (Accessing a) way h = h
 forward_is_way least next (Assigning name value) way h = h
+forward_is_way least next (SettingRow row elements value) way h = h
 forward_is_way least next (Noting deed) way h = h
 forward_is_way least next (Going place) way h = h
 forward_is_way least next (Branching condition otherwise) way h = h

@@ -15,7 +15,7 @@ use Rattle.algorithm_texts.proofs.Stacked.{value_read, condition_read}
 
 knows_heads_in : (d : Drafted) → KnowsHeads (scope_in d)
 unfolding reserved
-knows_heads_in d = (refl, refl, refl)
+knows_heads_in d = record { not_word = refl; max_word = refl; min_word = refl; me_word = refl; procs_word = refl; limit_word = refl }
 
 value_of : (d : Drafted) (names after : List (List ℕ)) (tokens : List Token) (v : Term) → read_value (scope_in d) names tokens ≡ Some (v, after)
     → Says (scope_in d) names tokens (Value v) after

@@ -1,6 +1,6 @@
 -- What is read from tokens is what the grammar says of them.
-use Rattle.std.proofs.Common.{◌≡◌, ℕ, ◌+◌, ◌<◌, ◌≤◌, Bool, true, false, cond, leb, ltb, List, [], ◌∷◌, ◌++◌, Option, Some, None, IfSome, refl, sym, ap, ◌∙◌, subst, append_assoc, codes, bytes_eq, arith}
-use Rattle.std.proofs.lemmas.Bool.{leb-true, leb-false, ltb-true}
+use Rattle.std.proofs.Common.{◌≡◌, ℕ, ◌+◌, Bool, true, false, cond, ltb, List, [], ◌∷◌, ◌++◌, Option, Some, None, IfSome, refl, sym, ap, ◌∙◌, subst, append_assoc, codes, bytes_eq, arith}
+use Rattle.std.proofs.lemmas.Bool.{ltb-true}
 use Rattle.std.proofs.lemmas.List.{append-nil}
 use Rattle.algorithm_texts.specs.declared.tokens.Sign.TheVariants.{Assign, Colon, Open, Close, Comma, OpenIndex, CloseIndex, Operator as OperatorSign, Comparison as ComparisonSign}
 use Rattle.algorithm_texts.specs.declared.tokens.Token.{Token}
@@ -9,173 +9,11 @@ use Rattle.algorithm_texts.specs.declared.operands.Bracket.{Bracket}
 use Rattle.algorithm_texts.specs.declared.operands.Bracket.TheVariants.{Plain, Not, Max, Min}
 use Rattle.algorithm_texts.specs.declared.operands.Joint.{Joint}
 use Rattle.algorithm_texts.specs.declared.operands.Joint.TheVariants.{Operator as ByOperator, Comparison as ByComparison, And, Or}
-use Rattle.algorithm_texts.specs.Parts.{OperandPart, join_of, enclosed_part, enclosed_two, ◌>>=◌}
-use Rattle.algorithm_texts.specs.Grammar.{Scope, Tree, Numeral, Name, One, Two, Between, head_tokens, joint_token, tokens_of_tree, strength, Binds, depth, word_value, meaning, Says}
-use Rattle.algorithm_texts.specs.Stacks.{Waits, Joining, Opened, Halfway, NextToken, Begins, Heads, Follows, OperandReading, reading, brackets, stack_reduction, reading_after_bracket, head_of, reading_after_word, reading_after_value, reading_at_part, reading_after_head, enclosing, closes, halves, joint_of, joining, reading_after_part, reading_after_token, turn, run, sole_part, part_at_end, read_part}
-use Rattle.algorithm_texts.proofs.Complete.{Ends, is_word}
-
--- ---- trees
-
--- a tree binds where less is asked
-pub weaker : (m n : ℕ) (tree : Tree) → m ≤ n → Binds n tree → Binds m tree
-weaker m n (Numeral k) le h = tt
-weaker m n (Name word) le h = tt
-weaker m n (One head tree) le h = h
-weaker m n (Two head a b) le h = h
-weaker m n (Between joint a b) le h = (omega (arith, h.0), h.1, h.2)
-
--- ---- what the tokens so far say
-
--- a tree stands after these tokens, with an operator after it
-pub record Joins (Before : List Token → List (List ℕ) → Type 0) (scope : Scope) (ws : List Waits) (tokens : List Token) (names : List (List ℕ)) (part : OperandPart) (joint : Joint) : Type 0 where
-  pub before : List Token
-  pub old : List (List ℕ)
-  pub tree : Tree
-  pub so_far : Before before old
-  pub tokens_of : tokens ≡ before ++ (tokens_of_tree tree ++ (joint_token joint ∷ []))
-  pub means : meaning scope tree old ≡ Some (part, names)
-  pub binds : Binds (strength joint) tree
-  pub ends : Ends (strength joint) ws
-  pub shallow : depth tree + brackets ws ≤ 16
-
--- a bracket opens after these tokens
-pub record Opens (Before : List Token → List (List ℕ) → Type 0) (ws : List Waits) (tokens : List Token) (names : List (List ℕ)) (head : Bracket) : Type 0 where
-  pub before : List Token
-  pub so_far : Before before names
-  pub tokens_of : tokens ≡ before ++ (head_tokens head ++ (Sign Open ∷ []))
-  pub few : brackets ws < 16
-
--- a bracket opens after these tokens, with a tree and a comma in it
-pub record Halves (Before : List Token → List (List ℕ) → Type 0) (scope : Scope) (ws : List Waits) (tokens : List Token) (names : List (List ℕ)) (head : Bracket) (part : OperandPart) : Type 0 where
-  pub before : List Token
-  pub old : List (List ℕ)
-  pub tree : Tree
-  pub so_far : Before before old
-  pub tokens_of : tokens ≡ before ++ (head_tokens head ++ (Sign Open ∷ (tokens_of_tree tree ++ (Sign Comma ∷ []))))
-  pub means : meaning scope tree old ≡ Some (part, names)
-  pub binds : Binds 1 tree
-  pub shallow : depth tree + brackets ws + 1 ≤ 16
-
--- these tokens leave this waiting, and these private names
-abbrev pub Leaves : Scope → List (List ℕ) → List Waits → List Token → List (List ℕ) → Type 0
-Leaves scope start [] tokens names = (tokens ≡ []) × (names ≡ start)
-Leaves scope start (Joining part joint ∷ ws) tokens names = Joins (λ before old. Leaves scope start ws before old) scope ws tokens names part joint
-Leaves scope start (Opened head ∷ ws) tokens names = Opens (λ before old. Leaves scope start ws before old) ws tokens names head
-Leaves scope start (Halfway head part ∷ ws) tokens names = Halves (λ before old. Leaves scope start ws before old) scope ws tokens names head part
-
-few_open : (scope : Scope) (start : List (List ℕ)) (ws : List Waits) (tokens : List Token) (names : List (List ℕ)) → Leaves scope start ws tokens names → brackets ws ≤ 16
-few_open scope start [] tokens names h = omega arith
-few_open scope start (Joining part joint ∷ ws) tokens names h = omega (arith, h.shallow)
-few_open scope start (Opened head ∷ ws) tokens names h = omega (arith, h.few)
-few_open scope start (Halfway head part ∷ ws) tokens names h = omega (arith, h.shallow)
-
--- a tree binds above the operator that waits last
-abbrev pub Over : List Waits → Tree → Type 0
-Over [] tree = Unit {0}
-Over (Joining part joint ∷ ws) tree = Binds (strength joint + 1) tree
-Over (Opened head ∷ ws) tree = Unit {0}
-Over (Halfway head part ∷ ws) tree = Unit {0}
-
-over_all : (ws : List Waits) (tree : Tree) → ((n : ℕ) → Binds n tree) → Over ws tree
-over_all [] tree h = tt
-over_all (Joining part joint ∷ ws) tree h = h (strength joint + 1)
-over_all (Opened head ∷ ws) tree h = tt
-over_all (Halfway head part ∷ ws) tree h = tt
-
-over_between : (ws : List Waits) (joint : Joint) (a b : Tree) → Ends (strength joint) ws → Binds (strength joint) a → Binds (strength joint + 1) b → Over ws (Between joint a b)
-over_between [] joint a b h left right = tt
-over_between (Joining part other ∷ ws) joint a b h left right = (omega (arith, h), left, right)
-over_between (Opened head ∷ ws) joint a b h left right = tt
-over_between (Halfway head part ∷ ws) joint a b h left right = tt
-
--- a tree ends these tokens, with operators at least so strong
-pub record Stands (scope : Scope) (start : List (List ℕ)) (least : ℕ) (ws : List Waits) (tokens : List Token) (names : List (List ℕ)) (part : OperandPart) : Type 0 where
-  pub before : List Token
-  pub old : List (List ℕ)
-  pub tree : Tree
-  pub so_far : Leaves scope start ws before old
-  pub tokens_of : tokens ≡ before ++ tokens_of_tree tree
-  pub means : meaning scope tree old ≡ Some (part, names)
-  pub binds : Binds least tree
-  pub over : Over ws tree
-  pub shallow : depth tree + brackets ws ≤ 16
-
--- a tree of one token, or in brackets, ends these tokens
-pub record Stood (scope : Scope) (start : List (List ℕ)) (ws : List Waits) (tokens : List Token) (names : List (List ℕ)) (part : OperandPart) : Type 0 where
-  pub before : List Token
-  pub old : List (List ℕ)
-  pub tree : Tree
-  pub so_far : Leaves scope start ws before old
-  pub tokens_of : tokens ≡ before ++ tokens_of_tree tree
-  pub means : meaning scope tree old ≡ Some (part, names)
-  pub binds : (n : ℕ) → Binds n tree
-  pub shallow : depth tree + brackets ws ≤ 16
-
-stands : (scope : Scope) (start : List (List ℕ)) (least : ℕ) (ws : List Waits) (tokens : List Token) (names : List (List ℕ)) (part : OperandPart) → Stood scope start ws tokens names part
-    → Stands scope start least ws tokens names part
-stands scope start least ws tokens names part s = record {
-  before = s.before;
-  old = s.old;
-  tree = s.tree;
-  so_far = s.so_far;
-  tokens_of = s.tokens_of;
-  means = s.means;
-  binds = s.binds least;
-  over = over_all ws s.tree s.binds;
-  shallow = s.shallow;
-}
-
-between_means : (scope : Scope) (joint : Joint) (a b : Tree) (old mid names : List (List ℕ)) (left right part : OperandPart) → meaning scope a old ≡ Some (left, mid) → meaning scope b mid ≡ Some (right, names)
-    → join_of joint left right ≡ Some part → meaning scope (Between joint a b) old ≡ Some (part, names)
-between_means scope joint a b old mid names left right part x y z =
-    ap (λ o. o >>= λ x. (meaning scope b x.1 >>= λ y. (join_of joint x.0 y.0 >>= λ q. Some (q, y.1)))) x
-    ∙ ap (λ o. o >>= λ y. (join_of joint left y.0 >>= λ q. Some (q, y.1))) y
-    ∙ ap (λ o. o >>= λ q. Some (q, names)) z
-
--- a part is joined to what waits
-join_stands : (scope : Scope) (start : List (List ℕ)) (least : ℕ) (left : OperandPart) (joint : Joint) (ws : List Waits) (tokens : List Token) (names : List (List ℕ)) (part whole : OperandPart) → least ≤ strength joint
-    → join_of joint left part ≡ Some whole → Stands scope start least (Joining left joint ∷ ws) tokens names part → Stands scope start least ws tokens names whole
-join_stands scope start least left joint ws tokens names part whole le e s =
-    let j = s.so_far in
-    record {
-      before = j.before;
-      old = j.old;
-      tree = Between joint j.tree s.tree;
-      so_far = j.so_far;
-      tokens_of = s.tokens_of ∙ ap (λ ts. ts ++ tokens_of_tree s.tree) j.tokens_of ∙ append_assoc j.before (tokens_of_tree j.tree ++ (joint_token joint ∷ [])) (tokens_of_tree s.tree)
-          ∙ ap (λ ts. j.before ++ ts) (append_assoc (tokens_of_tree j.tree) (joint_token joint ∷ []) (tokens_of_tree s.tree));
-      means = between_means scope joint j.tree s.tree j.old s.old names left part whole j.means s.means e;
-      binds = (le, j.binds, s.over);
-      over = over_between ws joint j.tree s.tree j.ends j.binds s.over;
-      shallow = omega (arith, j.shallow, s.shallow);
-    }
-
-abbrev Done : Scope → List (List ℕ) → ℕ → List Token → List (List ℕ) → List Waits × OperandPart → Type 0
-Done scope start least tokens names r = Stands scope start least r.0 tokens names r.1 × Ends least r.0
-
-reduced_some : (scope : Scope) (start : List (List ℕ)) (least : ℕ) (left : OperandPart) (joint : Joint) (ws : List Waits) (tokens : List Token) (names : List (List ℕ)) (part : OperandPart) (o : Option OperandPart)
-    → least ≤ strength joint → join_of joint left part ≡ o → Stands scope start least (Joining left joint ∷ ws) tokens names part
-    → ((whole : OperandPart) → Stands scope start least ws tokens names whole → IfSome (stack_reduction least ws whole) (Done scope start least tokens names))
-    → IfSome (o >>= stack_reduction least ws) (Done scope start least tokens names)
-reduced_some scope start least left joint ws tokens names part None le e s h = tt
-reduced_some scope start least left joint ws tokens names part (Some whole) le e s h = h whole (join_stands scope start least left joint ws tokens names part whole le e s)
-
-reduced_at : (scope : Scope) (start : List (List ℕ)) (least : ℕ) (left : OperandPart) (joint : Joint) (ws : List Waits) (tokens : List Token) (names : List (List ℕ)) (part : OperandPart) (b : Bool)
-    → leb least (strength joint) ≡ b → Stands scope start least (Joining left joint ∷ ws) tokens names part
-    → ((whole : OperandPart) → Stands scope start least ws tokens names whole → IfSome (stack_reduction least ws whole) (Done scope start least tokens names))
-    → IfSome (cond b (join_of joint left part >>= stack_reduction least ws) (Some (Joining left joint ∷ ws, part))) (Done scope start least tokens names)
-reduced_at scope start least left joint ws tokens names part true e s h =
-    reduced_some scope start least left joint ws tokens names part (join_of joint left part) (leb-true least (strength joint) e) refl s h
-reduced_at scope start least left joint ws tokens names part false e s h = (s, leb-false least (strength joint) e)
-
--- what waits is joined, as far as it is strong enough
-reduced_so : (scope : Scope) (start : List (List ℕ)) (least : ℕ) (ws : List Waits) (tokens : List Token) (names : List (List ℕ)) (part : OperandPart) → Stands scope start least ws tokens names part
-    → IfSome (stack_reduction least ws part) (Done scope start least tokens names)
-reduced_so scope start least [] tokens names part s = (s, tt)
-reduced_so scope start least (Joining left joint ∷ ws) tokens names part s =
-    reduced_at scope start least left joint ws tokens names part (leb least (strength joint)) refl s (λ whole t. reduced_so scope start least ws tokens names whole t)
-reduced_so scope start least (Opened head ∷ ws) tokens names part s = (s, tt)
-reduced_so scope start least (Halfway head first ∷ ws) tokens names part s = (s, tt)
+use Rattle.algorithm_texts.specs.Parts.{Term, OperandPart, enclosed_part, enclosed_two, ◌>>=◌}
+use Rattle.algorithm_texts.specs.Grammar.{Scope, Tree, Numeral, Name, Indexed, One, Two, head_tokens, joint_token, tokens_of_tree, strength, row_read, element_part, word_value, meaning, Says}
+use Rattle.algorithm_texts.specs.Stacks.{Waits, Joining, Opened, Halfway, Indexing, NextToken, Begins, Heads, Indexes, Follows, OperandReading, reading, brackets, stack_reduction, reading_after_bracket, reading_after_row, head_of, reading_after_name, reading_after_word, reading_after_value, reading_at_part, reading_after_head, enclosing, closes, closes_index, halves, joint_of, joining, reading_after_part, reading_after_token, turn, run, sole_part, part_at_end, read_part}
+use Rattle.algorithm_texts.proofs.Complete.{is_word}
+use Rattle.algorithm_texts.proofs.Standing.{Leaves, few_open, Stands, Stood, stands, Done, reduced_so}
 
 -- ---- one more token
 
@@ -185,10 +23,22 @@ pub record Headed (scope : Scope) (start : List (List ℕ)) (ws : List Waits) (t
   pub so_far : Leaves scope start ws before names
   pub tokens_of : tokens ≡ before ++ head_tokens head
 
+-- the name of a row ends these tokens
+pub record RowNamed (scope : Scope) (start : List (List ℕ)) (ws : List Waits) (tokens : List Token) (names : List (List ℕ)) (first : ℕ) (size : Term) : Type 0 where
+  pub before : List Token
+  pub word : List ℕ
+  pub row : ℕ × Term
+  pub so_far : Leaves scope start ws before names
+  pub tokens_of : tokens ≡ before ++ (Word word ∷ [])
+  pub is : row_read scope word ≡ Some row
+  pub first_is : row.0 ≡ first
+  pub size_is : row.1 ≡ size
+
 -- these tokens lead to this place
 abbrev pub Leads : Scope → List (List ℕ) → List Token → List (List ℕ) → List Waits → NextToken → Type 0
 Leads scope start tokens names ws Begins = Leaves scope start ws tokens names
 Leads scope start tokens names ws (Heads head) = Headed scope start ws tokens names head
+Leads scope start tokens names ws (Indexes first size) = RowNamed scope start ws tokens names first size
 Leads scope start tokens names ws (Follows part) = Stood scope start ws tokens names part
 
 abbrev pub LeadsTo : Scope → List (List ℕ) → List Token → OperandReading → Type 0
@@ -225,9 +75,23 @@ valued_so scope start tokens names ws word (Some x) e h = record {
   shallow = omega (arith, few_open scope start ws tokens names h);
 }
 
+named_so : (scope : Scope) (start : List (List ℕ)) (tokens : List Token) (names : List (List ℕ)) (ws : List Waits) (word : List ℕ) (r : Option (ℕ × Term)) → row_read scope word ≡ r
+    → Leaves scope start ws tokens names → IfSome (reading_after_name scope names ws word r) (LeadsTo scope start (tokens ++ Word word ∷ []))
+named_so scope start tokens names ws word None is h = valued_so scope start tokens names ws word (word_value scope names word) refl h
+named_so scope start tokens names ws word (Some row) is h = record {
+  before = tokens;
+  word = word;
+  row = row;
+  so_far = h;
+  tokens_of = refl;
+  is = is;
+  first_is = refl;
+  size_is = refl;
+}
+
 worded_so : (scope : Scope) (start : List (List ℕ)) (tokens : List Token) (names : List (List ℕ)) (ws : List Waits) (word : List ℕ) (o : Option Bracket) → head_of word ≡ o
     → Leaves scope start ws tokens names → IfSome (reading_after_word scope names ws word o) (LeadsTo scope start (tokens ++ Word word ∷ []))
-worded_so scope start tokens names ws word None e h = valued_so scope start tokens names ws word (word_value scope names word) refl h
+worded_so scope start tokens names ws word None e h = named_so scope start tokens names ws word (row_read scope word) refl h
 worded_so scope start tokens names ws word (Some head) e h = record {
   before = tokens;
   so_far = h;
@@ -255,6 +119,26 @@ headed_so : (scope : Scope) (start : List (List ℕ)) (tokens : List Token) (nam
 headed_so scope start tokens names ws head (Sign Open) h =
     opened_so scope start (tokens ++ Sign Open ∷ []) names ws head h.before h.so_far (ap (λ ts. ts ++ Sign Open ∷ []) h.tokens_of ∙ append_assoc h.before (head_tokens head) (Sign Open ∷ []))
 headed_so scope start tokens names ws head other h = tt
+
+index_at : (scope : Scope) (start : List (List ℕ)) (tokens : List Token) (names : List (List ℕ)) (ws : List Waits) (first : ℕ) (size : Term) (b : Bool) → ltb (brackets ws) 16 ≡ b → RowNamed scope start ws tokens names first size
+    → IfSome (cond b (Some (reading names (Indexing first size ∷ ws) Begins)) None) (LeadsTo scope start (tokens ++ Sign OpenIndex ∷ []))
+index_at scope start tokens names ws first size true e h = record {
+  before = h.before;
+  word = h.word;
+  row = h.row;
+  so_far = h.so_far;
+  tokens_of = ap (λ ts. ts ++ Sign OpenIndex ∷ []) h.tokens_of ∙ append_assoc h.before (Word h.word ∷ []) (Sign OpenIndex ∷ []);
+  is = h.is;
+  first_is = h.first_is;
+  size_is = h.size_is;
+  few = ltb-true (brackets ws) 16 e;
+}
+index_at scope start tokens names ws first size false e h = tt
+
+rowed_so : (scope : Scope) (start : List (List ℕ)) (tokens : List Token) (names : List (List ℕ)) (ws : List Waits) (first : ℕ) (size : Term) (token : Token) → RowNamed scope start ws tokens names first size
+    → IfSome (reading_after_row names ws first size token) (LeadsTo scope start (tokens ++ token ∷ []))
+rowed_so scope start tokens names ws first size (Sign OpenIndex) h = index_at scope start tokens names ws first size (ltb (brackets ws) 16) refl h
+rowed_so scope start tokens names ws first size other h = tt
 
 -- ---- tokens in another grouping
 
@@ -327,7 +211,41 @@ closes_so : (scope : Scope) (start : List (List ℕ)) (tokens : List Token) (nam
 closes_so scope start tokens names [] part s = tt
 closes_so scope start tokens names (Joining left joint ∷ ws) part s = tt
 closes_so scope start tokens names (Opened head ∷ ws) part s = one_so scope start tokens names ws head part (enclosed_part head part) refl s
+closes_so scope start tokens names (Indexing first size ∷ ws) part s = tt
 closes_so scope start tokens names (Halfway head first ∷ ws) part s = two_so scope start tokens names ws head first part (enclosed_two head first part) refl s
+
+indexed_means : (scope : Scope) (word : List ℕ) (row : ℕ × Term) (tree : Tree) (old names : List (List ℕ)) (part whole : OperandPart) → row_read scope word ≡ Some row → meaning scope tree old ≡ Some (part, names)
+    → element_part row.0 row.1 part ≡ Some whole → meaning scope (Indexed word tree) old ≡ Some (whole, names)
+indexed_means scope word row tree old names part whole w x y =
+    ap (λ r. r >>= λ row. (meaning scope tree old >>= λ x. (element_part row.0 row.1 x.0 >>= λ q. Some (q, x.1)))) w
+    ∙ ap (λ o. o >>= λ x. (element_part row.0 row.1 x.0 >>= λ q. Some (q, x.1))) x
+    ∙ ap (λ o. o >>= λ q. Some (q, names)) y
+
+index_so : (scope : Scope) (start : List (List ℕ)) (tokens : List Token) (names : List (List ℕ)) (ws : List Waits) (first : ℕ) (size : Term) (part : OperandPart) (o : Option OperandPart) → element_part first size part ≡ o
+    → Stands scope start 1 (Indexing first size ∷ ws) tokens names part → IfSome (enclosing names ws o) (LeadsTo scope start (tokens ++ Sign CloseIndex ∷ []))
+index_so scope start tokens names ws first size part None e s = tt
+index_so scope start tokens names ws first size part (Some whole) e s =
+    let o = s.so_far in
+    let same : element_part o.row.0 o.row.1 part ≡ element_part first size part = (λ i. element_part (o.first_is i) (o.size_is i) part) in
+    record {
+      before = o.before;
+      old = s.old;
+      tree = Indexed o.word s.tree;
+      so_far = o.so_far;
+      tokens_of = ap (λ ts. ts ++ Sign CloseIndex ∷ []) (s.tokens_of ∙ ap (λ ts. ts ++ tokens_of_tree s.tree) o.tokens_of)
+          ∙ regroup_one o.before (Word o.word ∷ []) (Sign OpenIndex) (tokens_of_tree s.tree) (Sign CloseIndex);
+      means = indexed_means scope o.word o.row s.tree s.old names part whole o.is s.means (same ∙ e);
+      binds = λ n. s.binds;
+      shallow = omega (arith, s.shallow);
+    }
+
+closes_index_so : (scope : Scope) (start : List (List ℕ)) (tokens : List Token) (names : List (List ℕ)) (ws : List Waits) (part : OperandPart) → Stands scope start 1 ws tokens names part
+    → IfSome (closes_index names ws part) (LeadsTo scope start (tokens ++ Sign CloseIndex ∷ []))
+closes_index_so scope start tokens names [] part s = tt
+closes_index_so scope start tokens names (Joining left joint ∷ ws) part s = tt
+closes_index_so scope start tokens names (Opened head ∷ ws) part s = tt
+closes_index_so scope start tokens names (Halfway head first ∷ ws) part s = tt
+closes_index_so scope start tokens names (Indexing first size ∷ ws) part s = index_so scope start tokens names ws first size part (element_part first size part) refl s
 
 half_so : (scope : Scope) (start : List (List ℕ)) (tokens : List Token) (names : List (List ℕ)) (ws : List Waits) (head : Bracket) (part : OperandPart) → Stands scope start 1 (Opened head ∷ ws) tokens names part
     → Leaves scope start (Halfway head part ∷ ws) (tokens ++ Sign Comma ∷ []) names
@@ -354,6 +272,7 @@ halves_so scope start tokens names (Opened Plain ∷ ws) part s = half_so scope 
 halves_so scope start tokens names (Opened Max ∷ ws) part s = half_so scope start tokens names ws Max part s
 halves_so scope start tokens names (Opened Min ∷ ws) part s = half_so scope start tokens names ws Min part s
 halves_so scope start tokens names (Halfway head first ∷ ws) part s = tt
+halves_so scope start tokens names (Indexing first size ∷ ws) part s = tt
 
 -- what follows where what waits is joined
 then_so : (scope : Scope) (start : List (List ℕ)) (least : ℕ) (tokens more : List Token) (names : List (List ℕ)) (next : List Waits × OperandPart → Option OperandReading) (o : Option (List Waits × OperandPart))
@@ -398,6 +317,9 @@ followed_so : (scope : Scope) (start : List (List ℕ)) (tokens : List Token) (n
 followed_so scope start tokens names ws part (Sign Close) s =
     then_so scope start 1 tokens (tokens ++ Sign Close ∷ []) names (λ r. closes names r.0 r.1) (stack_reduction 1 ws part)
     (reduced_so scope start 1 ws tokens names part (stands scope start 1 ws tokens names part s)) (λ r d. closes_so scope start tokens names r.0 r.1 d.0)
+followed_so scope start tokens names ws part (Sign CloseIndex) s =
+    then_so scope start 1 tokens (tokens ++ Sign CloseIndex ∷ []) names (λ r. closes_index names r.0 r.1) (stack_reduction 1 ws part)
+    (reduced_so scope start 1 ws tokens names part (stands scope start 1 ws tokens names part s)) (λ r d. closes_index_so scope start tokens names r.0 r.1 d.0)
 followed_so scope start tokens names ws part (Sign Comma) s =
     then_so scope start 1 tokens (tokens ++ Sign Comma ∷ []) names (λ r. halves names r.0 r.1) (stack_reduction 1 ws part)
     (reduced_so scope start 1 ws tokens names part (stands scope start 1 ws tokens names part s)) (λ r d. halves_so scope start tokens names r.0 r.1 d.0)
@@ -407,6 +329,7 @@ turned_so : (scope : Scope) (start : List (List ℕ)) (tokens : List Token) (nam
     → IfSome (reading_after_token scope names ws next token) (LeadsTo scope start (tokens ++ token ∷ []))
 turned_so scope start tokens names ws Begins token h = begun_so scope start tokens names ws token h
 turned_so scope start tokens names ws (Heads head) token h = headed_so scope start tokens names ws head token h
+turned_so scope start tokens names ws (Indexes first size) token h = rowed_so scope start tokens names ws first size token h
 turned_so scope start tokens names ws (Follows part) token h = followed_so scope start tokens names ws part token h
 
 -- ---- all tokens
@@ -444,6 +367,7 @@ ended_so : (scope : Scope) (start : List (List ℕ)) (tokens : List Token) (name
     → part_at_end names ws next ≡ Some (part, after) → Says scope start tokens part after
 ended_so scope start tokens names ws Begins part after h e = absurd (cc)
 ended_so scope start tokens names ws (Heads head) part after h e = absurd (cc)
+ended_so scope start tokens names ws (Indexes first size) part after h e = absurd (cc)
 ended_so scope start tokens names ws (Follows last) part after h e =
     ended_some scope start tokens names (stack_reduction 1 ws last) part after (reduced_so scope start 1 ws tokens names last (stands scope start 1 ws tokens names last h)) e
 

@@ -13,7 +13,7 @@ use Rattle.algorithm_texts.specs.declared.operands.Joint.{Joint}
 use Rattle.algorithm_texts.specs.declared.stack.Waiting.{Waiting}
 use Rattle.algorithm_texts.specs.Parts.{OperandPart, Value, Condition, Pair, Private, Term, Formula, term_of, formula_of, join_of, value_in, condition_in, ◌>>=◌}
 use Rattle.algorithm_texts.specs.Grammar.{Scope, strength, private_name_part, Says}
-use Rattle.algorithm_texts.specs.Stacks.{Waits, Joining, Opened, Halfway, OperandReading, brackets, is_open, stack_reduction, turn, run, read_part}
+use Rattle.algorithm_texts.specs.Stacks.{Waits, Joining, Opened, Halfway, Indexing, OperandReading, brackets, is_open, stack_reduction, turn, run, read_part}
 use Rattle.algorithm_texts.specs.Operands.{waits_of, RefusesAs, MakesValue, MakesCondition, scope_of, SayNoValue, SayNoCondition, SayOnePart}
 unfoldable use Rattle.algorithm_texts.specs.Operands.{reserved}
 use Rattle.algorithm_texts.proofs.Complete.{KnowsHeads, complete}
@@ -31,6 +31,8 @@ bracket_more (Opened head) ws true e = refl
 bracket_more (Opened head) ws false e = absurd (cc)
 bracket_more (Halfway head part) ws true e = refl
 bracket_more (Halfway head part) ws false e = absurd (cc)
+bracket_more (Indexing first size) ws true e = refl
+bracket_more (Indexing first size) ws false e = absurd (cc)
 
 -- one more that waits is counted
 pub counted : (all : List Waiting) (i : ℕ) (w : Waiting) (b : Bool) → i < length all → w ≡ get_or all i w → is_open (waits_of w) ≡ b
@@ -85,7 +87,7 @@ run_fail scope tokens rest token r front e = ap (λ ts. run scope ts r) front �
 
 pub knows_heads : (a : Algorithm) → KnowsHeads (scope_of a)
 unfolding reserved
-knows_heads a = (refl, refl, refl)
+knows_heads a = record { not_word = refl; max_word = refl; min_word = refl; me_word = refl; procs_word = refl; limit_word = refl }
 
 none_some : {A : Type 0} {x : A} → None ≡ Some x → ⊥
 none_some e = cc
@@ -175,19 +177,19 @@ abbrev Text : Type 0
 Text = String Global
 
 -- a name that is added is the last
-pub name_added : (names : List Text) (word : List ℕ) (text : Text) (index : ℕ) → string_bytes text ≡ word → index ≡ length names → index < 32
-    → private_name_part 32 (map (λ name. string_bytes name) names) word None ≡ Some (Value (Private index), map (λ name. string_bytes name) (names ++ text ∷ []))
+pub name_added : (names : List Text) (word : List ℕ) (text : Text) (index : ℕ) → string_bytes text ≡ word → index ≡ length names → index < 64
+    → private_name_part 64 (map (λ name. string_bytes name) names) word None ≡ Some (Value (Private index), map (λ name. string_bytes name) (names ++ text ∷ []))
 name_added names word text index e len few =
     let many : length (map (λ name. string_bytes name) names) ≡ index = length-map names (λ name. string_bytes name) ∙ sym len in
-    let fits : ltb (length (map (λ name. string_bytes name) names)) 32 ≡ true = lt-ltb _ _ (omega (arith, many)) in
+    let fits : ltb (length (map (λ name. string_bytes name) names)) 64 ≡ true = lt-ltb _ _ (omega (arith, many)) in
     let more : map (λ name. string_bytes name) (names ++ text ∷ []) ≡ map (λ name. string_bytes name) names ++ word ∷ [] =
     map-append (λ name. string_bytes name) names (text ∷ []) ∙ ap (λ w. map (λ name. string_bytes name) names ++ w ∷ []) e in
     rw fits (ap (λ (k : ℕ). Some (Value (Private k), map (λ name. string_bytes name) names ++ word ∷ [])) many ∙ ap (λ (ns : List (List ℕ)). Some (Value (Private index), ns)) (sym more))
 
 -- no name is added to as many as there may be
-pub name_refused : (names : List Text) (word : List ℕ) → 32 ≤ length names → private_name_part 32 (map (λ name. string_bytes name) names) word None ≡ None
+pub name_refused : (names : List Text) (word : List ℕ) → 64 ≤ length names → private_name_part 64 (map (λ name. string_bytes name) names) word None ≡ None
 name_refused names word many =
-    let full : ltb (length (map (λ name. string_bytes name) names)) 32 ≡ false = le-ltb _ _ (omega (arith, length-map names (λ name. string_bytes name))) in
+    let full : ltb (length (map (λ name. string_bytes name) names)) 64 ≡ false = le-ltb _ _ (omega (arith, length-map names (λ name. string_bytes name))) in
     rw full refl
 
 -- tokens say one thing

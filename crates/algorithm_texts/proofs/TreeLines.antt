@@ -1,5 +1,5 @@
 -- The lines of a program are read from the left as its tree means.
-use Rattle.std.proofs.Common.{◌≡◌, ◌⊎◌, ℕ, Bool, true, false, cond, eqb, ltb, ◌||◌, List, [], ◌∷◌, ◌++◌, length, Option, Some, None, IfSome, slice_get, drop, codes, refl, sym, ap, ◌∙◌, subst, inl, inr, append_assoc, arith}
+use Rattle.std.proofs.Common.{◌≡◌, ◌⊎◌, ℕ, Bool, true, false, cond, eqb, ltb, leb, ◌+◌, ◌||◌, List, [], ◌∷◌, ◌++◌, length, Option, Some, None, IfSome, slice_get, drop, codes, refl, sym, ap, ◌∙◌, subst, inl, inr, append_assoc, arith}
 use Rattle.std.specs.Prelude.{bytes_eq}
 use Rattle.std.proofs.lemmas.Bool.{false≢true}
 use Rattle.std.proofs.lemmas.Option.{slice_get_read, same_Some, none-some}
@@ -10,13 +10,13 @@ use Rattle.algorithm_texts.specs.declared.tokens.Sign.TheVariants.{Assign, OpenI
 use Rattle.algorithm_texts.specs.declared.tokens.Token.{Token}
 use Rattle.algorithm_texts.specs.declared.tokens.Token.TheVariants.{Number, Word, Sign}
 use Rattle.algorithm_texts.specs.Parts.{◌>>=◌}
-use Rattle.algorithm_texts.specs.Grammar.{Scope, is_among}
+use Rattle.algorithm_texts.specs.Grammar.{Scope, is_among, row_read}
 unfoldable use Rattle.algorithm_texts.specs.Operands.{reserved}
 use Rattle.algorithm_texts.specs.Fronts.{is_the_word, is_the_sign, letters_of, is_over, begins_no_simple}
-use Rattle.algorithm_texts.specs.Drafts.{Drafted}
-use Rattle.algorithm_texts.specs.LineDrafts.{new_name_in, new_name, has_declaration, name_set, is_constant, scope_in, with_names, read_goto, read_done, read_deed, read_await, read_store, read_private_assignment, read_assignment, read_simple, opening, read_test, read_then, read_if, read_for, read_else, read_end, read_label, read_statement}
-use Rattle.algorithm_texts.specs.NeverClaims.{read_claim, read_never, read_processes}
-use Rattle.algorithm_texts.specs.TextDrafts.{Spoken, with_number, empty_draft, undeclared_name, read_extent, is_array, read_word_values, with_lasting, read_shared, read_private, read_constant_value, read_constant, read_declaration, read_call, read_line, read_lines, read_head, read_promises, read_text}
+use Rattle.algorithm_texts.specs.Drafts.{Drafted, with_row}
+use Rattle.algorithm_texts.specs.LineDrafts.{new_name_in, new_name, has_declaration, name_set, is_constant, scope_in, with_names, read_goto, read_done, read_deed, read_await, read_store, read_private_assignment, read_private_set, read_assignment, read_simple, opening, read_test, read_then, read_if, read_for, read_else, read_end, read_label, read_statement}
+use Rattle.algorithm_texts.specs.NeverClaims.{read_claim, read_never, read_processes, without_rows}
+use Rattle.algorithm_texts.specs.TextDrafts.{Spoken, with_number, empty_draft, undeclared_name, read_extent, is_array, read_word_values, with_lasting, read_shared, read_size, read_row, read_single, read_private, read_constant_value, read_constant, read_declaration, read_call, read_line, read_lines, read_head, read_promises, read_text}
 use Rattle.algorithm_texts.specs.Blocks.{Block, Empty, Line, Enclosed, Divided, lines_in, read_if_block, read_if_line, begins_block, read_alone, divides, ends, draft_after_statement, beginning, dividing, ending, draft_after_block}
 use Rattle.algorithm_texts.specs.Programs.{CallLines, Program, calls_lines, program_lines, declarations_made, call_begun, calls_made, meaning_of}
 use Rattle.algorithm_texts.proofs.BlockTrees.{some_of, if_of, if_bind, if_cond, on_all, rest_of, alone_rest, begins_calls, divides_calls, ends_calls}
@@ -142,6 +142,10 @@ no_setting : (d : Drafted) (tokens : List Token) → slice_get tokens 0 ≡ Some
 no_setting d tokens e =
     none_after (name_set (scope_in d) d.names (slice_get tokens 0)) _ (none_after (new_name (slice_get tokens 0)) _ (ap new_name e ∙ no_name))
 
+no_row : (d : Drafted) → row_read (scope_in d) (codes "call") ≡ None
+unfolding reserved
+no_row d = refl
+
 no_choice : (a b c : Bool) (store private : Option Drafted) → a ≡ false → private ≡ None → cond a store (cond b None (cond c private None)) ≡ None
 no_choice true b c store private p q = absurd (false≢true (sym p))
 no_choice false true c store private p q = refl
@@ -150,8 +154,8 @@ no_choice false false false store private p q = refl
 
 no_assignment : (d : Drafted) (tokens : List Token) → NoCall d.declared → slice_get tokens 0 ≡ Some (Word (codes "call")) → read_assignment d tokens ≡ None
 no_assignment d tokens none e =
-    ap (λ o. letters_of o >>= (λ first. cond (is_among d.declared first) (read_store d tokens) (cond (is_the_sign (slice_get tokens 1) OpenIndex) None
-    (cond (is_the_sign (slice_get tokens 1) Assign) (read_private_assignment d tokens) None)))) e
+    ap (λ o. letters_of o >>= (λ first. cond (is_among d.declared first) (read_store d tokens) (read_private_set d tokens (row_read (scope_in d) first)))) e
+    ∙ ap (λ r. cond (is_among d.declared (codes "call")) (read_store d tokens) (read_private_set d tokens r)) (no_row d)
     ∙ no_choice (is_among d.declared (codes "call")) (is_the_sign (slice_get tokens 1) OpenIndex) (is_the_sign (slice_get tokens 1) Assign) (read_store d tokens)
     (read_private_assignment d tokens) none (no_setting d tokens e)
 
@@ -387,11 +391,22 @@ shared_other d tokens none =
     (λ name other. on_all (λ now. NoCall now.declared) (cond (ltb (length d.declared) 64) (read_extent (scope_in d) d.names (drop 1 tokens)) None) _
     (λ extent. on_all (λ now. NoCall now.declared) (read_word_values (scope_in d) (is_array extent.0) extent.2 extent.1) _ (λ v. among_more d.declared name (codes "call") none other)))
 
+single_other : (d : Drafted) (name : List ℕ) (tokens : List Token) → NoCall d.declared → IfSome (read_single d name tokens) (λ now. NoCall now.declared)
+single_other d name tokens none =
+    if_cond (λ now. NoCall now.declared) (ltb (length d.names) 64) (cond (is_over tokens) (Some (with_lasting name d)) None) None
+    (if_cond (λ now. NoCall now.declared) (is_over tokens) (Some (with_lasting name d)) None none tt) tt
+
+row_other : (d : Drafted) (name : List ℕ) (tokens : List Token) → NoCall d.declared → IfSome (read_row d name tokens) (λ now. NoCall now.declared)
+row_other d name tokens none =
+    on_all (λ now. NoCall now.declared) (read_size (scope_in d) d.names tokens) _
+    (λ size. if_cond (λ now. NoCall now.declared) (leb (length d.names + 16) 64) (cond (is_over size.1) (Some (with_row name size.0 (with_names size.2 d))) None) None
+    (if_cond (λ now. NoCall now.declared) (is_over size.1) (Some (with_row name size.0 (with_names size.2 d))) None none tt) tt)
+
 private_other : (d : Drafted) (tokens : List Token) → NoCall d.declared → IfSome (read_private d tokens) (λ now. NoCall now.declared)
 private_other d tokens none =
     on_all (λ now. NoCall now.declared) (undeclared_name (scope_in d) d.names (slice_get tokens 0)) _
-    (λ name. if_cond (λ now. NoCall now.declared) (ltb (length d.names) 32) (cond (is_over (drop 1 tokens)) (Some (with_lasting name d)) None) None
-    (if_cond (λ now. NoCall now.declared) (is_over (drop 1 tokens)) (Some (with_lasting name d)) None none tt) tt)
+    (λ name. if_cond (λ now. NoCall now.declared) (is_the_sign (slice_get tokens 1) OpenIndex) (read_row d name (drop 1 tokens)) (read_single d name (drop 1 tokens))
+    (row_other d name (drop 1 tokens) none) (single_other d name (drop 1 tokens) none))
 
 constant_other : (d : Drafted) (tokens : List Token) → NoCall d.declared → IfSome (read_constant d tokens) (λ now. NoCall now.declared)
 constant_other d tokens none =
@@ -400,8 +415,8 @@ constant_other d tokens none =
 
 never_other : (d : Drafted) (tokens : List Token) → NoCall d.declared → IfSome (read_never d tokens) (λ now. NoCall now.declared)
 never_other d tokens none =
-    on_all (λ now. NoCall now.declared) (read_processes (scope_in d) tokens) _
-    (λ processes. on_all (λ now. NoCall now.declared) (read_claim (with_names processes.0 d) processes.1) _ (λ claim. none))
+    on_all (λ now. NoCall now.declared) (read_processes (scope_in (without_rows d)) tokens) _
+    (λ processes. on_all (λ now. NoCall now.declared) (read_claim (with_names processes.0 (without_rows d)) processes.1) _ (λ claim. none))
 
 declaration_other : (d : Drafted) (tokens : List Token) → NoCall d.declared → IfSome (read_declaration d tokens) (λ now. NoCall now.declared)
 declaration_other d tokens none =

@@ -12,7 +12,7 @@ use Rattle.algorithm_texts.specs.declared.lines.Label.{Label}
 use Rattle.algorithm_texts.specs.declared.usage.Usage.{Usage}
 use Rattle.algorithm_texts.specs.declared.usage.Usage.TheVariants.{Reads, Sets, Begins, Ends}
 use Rattle.algorithm_texts.specs.Parts.{◌>>=◌}
-use Rattle.algorithm_texts.specs.Drafts.{LineForm, Accessing, Assigning, Noting, Going, Branching, Beginning, Repeating, Ending, PlacedLine, form_of, line_of, form_with_place, leading}
+use Rattle.algorithm_texts.specs.Drafts.{LineForm, Accessing, Assigning, SettingRow, Noting, Going, Branching, Beginning, Repeating, Ending, PlacedLine, form_of, line_of, form_with_place, leading}
 use Rattle.algorithm_texts.specs.FinishedDrafts.{is_within, target_of, jump_led, jumps_led}
 use Rattle.algorithm_texts.specs.Usage.{reads, sets, begins_loop, ends_loop, has_usage, fits, uses, passes_where, passes_at}
 use Rattle.algorithm_texts.specs.Runs.{is_own, is_seen}
@@ -52,6 +52,7 @@ passes_within test forms at h = elim (true_or_false (ltb at (length forms))) [
 led_twice : (place : ℕ) (form : LineForm) → form_with_place 0 (form_with_place place form) ≡ form_with_place 0 form
 led_twice place (Accessing a) = refl
 led_twice place (Assigning name value) = refl
+led_twice place (SettingRow row elements value) = refl
 led_twice place (Noting deed) = refl
 led_twice place (Going target) = refl
 led_twice place (Branching condition otherwise) = refl
@@ -94,6 +95,7 @@ jumps_uses labels blocks call (jump ∷ jumps) lines out e = elim (true_or_false
 reads_same : (name : ℕ) (form : LineForm) → reads name (form_with_place 0 form) ≡ reads name form
 reads_same name (Accessing a) = refl
 reads_same name (Assigning k value) = refl
+reads_same name (SettingRow row elements value) = refl
 reads_same name (Noting deed) = refl
 reads_same name (Going place) = refl
 reads_same name (Branching condition otherwise) = refl
@@ -104,6 +106,7 @@ reads_same name (Ending answer) = refl
 sets_same : (name : ℕ) (form : LineForm) → sets name (form_with_place 0 form) ≡ sets name form
 sets_same name (Accessing a) = refl
 sets_same name (Assigning k value) = refl
+sets_same name (SettingRow row elements value) = refl
 sets_same name (Noting deed) = refl
 sets_same name (Going place) = refl
 sets_same name (Branching condition otherwise) = refl
@@ -114,6 +117,7 @@ sets_same name (Ending answer) = refl
 begins_same : (name : ℕ) (form : LineForm) → begins_loop name (form_with_place 0 form) ≡ begins_loop name form
 begins_same name (Accessing a) = refl
 begins_same name (Assigning k value) = refl
+begins_same name (SettingRow row elements value) = refl
 begins_same name (Noting deed) = refl
 begins_same name (Going place) = refl
 begins_same name (Branching condition otherwise) = refl
@@ -124,6 +128,7 @@ begins_same name (Ending answer) = refl
 ends_same : (name : ℕ) (form : LineForm) → ends_loop name (form_with_place 0 form) ≡ ends_loop name form
 ends_same name (Accessing a) = refl
 ends_same name (Assigning k value) = refl
+ends_same name (SettingRow row elements value) = refl
 ends_same name (Noting deed) = refl
 ends_same name (Going place) = refl
 ends_same name (Branching condition otherwise) = refl
@@ -140,6 +145,7 @@ usage_same Ends name form = ends_same name form
 pub seen_same : (form : LineForm) → is_seen (form_with_place 0 form) ≡ is_seen form
 seen_same (Accessing a) = refl
 seen_same (Assigning k value) = refl
+seen_same (SettingRow row elements value) = refl
 seen_same (Noting deed) = refl
 seen_same (Going place) = refl
 seen_same (Branching condition otherwise) = refl
@@ -150,6 +156,7 @@ seen_same (Ending answer) = refl
 pub own_same : (jumps : List Jump) (at : ℕ) (form : LineForm) → is_own jumps at (form_with_place 0 form) ≡ is_own jumps at form
 own_same jumps at (Accessing a) = refl
 own_same jumps at (Assigning k value) = refl
+own_same jumps at (SettingRow row elements value) = refl
 own_same jumps at (Noting deed) = refl
 own_same jumps at (Going place) = refl
 own_same jumps at (Branching condition otherwise) = refl
@@ -160,6 +167,7 @@ own_same jumps at (Ending answer) = refl
 pub fits_same : (promises : Promises) (call : AlgorithmCall) (form : LineForm) → fits promises call (form_with_place 0 form) ≡ fits promises call form
 fits_same promises call (Accessing a) = refl
 fits_same promises call (Assigning k value) = refl
+fits_same promises call (SettingRow row elements value) = refl
 fits_same promises call (Noting deed) = refl
 fits_same promises call (Going place) = refl
 fits_same promises call (Branching condition otherwise) = refl

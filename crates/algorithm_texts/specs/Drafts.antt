@@ -1,5 +1,6 @@
 -- Lines of an algorithm, and drafts of one, without their memory.
-use Rattle.std.specs.Prelude.{ℕ, Bool, List, map, reverse, slice_set, Option, Some, None, string_bytes}
+use Rattle.std.specs.Prelude.{ℕ, ◌+◌, nat_lt, Bool, true, List, [], ◌∷◌, ◌++◌, length, map, reverse, slice_set, Option, Some, None, if◌then◌else◌, string_bytes}
+use Rattle.algorithms.specs.FirstWords.{values_to}
 use Rattle.std.specs.Option.{option_map}
 use Rattle.algorithms.specs.declared.algorithm.Algorithm.{Algorithm}
 use Rattle.algorithms.specs.declared.algorithm.Entries.{Entries}
@@ -11,11 +12,13 @@ use Rattle.algorithms.specs.declared.line.AccessLine.{AccessLine}
 use Rattle.algorithms.specs.declared.line.Action.{Action}
 use Rattle.algorithms.specs.declared.line.Action.TheVariants.{Load, Store, Await, Swap}
 use Rattle.algorithms.specs.declared.line.AlgorithmDeed.{AlgorithmDeed}
+use Rattle.algorithms.specs.declared.line.Elements.{Elements}
+use Rattle.algorithms.specs.declared.line.Elements.TheVariants as which
 use Rattle.algorithms.specs.declared.line.LineKind.{LineKind}
 use Rattle.algorithms.specs.declared.line.LineKind.TheVariants.{Access, Local, Done}
 use Rattle.algorithms.specs.declared.line.AlgorithmLine.{AlgorithmLine}
 use Rattle.algorithms.specs.declared.line.LocalLine.{LocalLine}
-use Rattle.algorithms.specs.declared.line.LocalLine.TheVariants.{Assign, Note, Goto, Branch, First, Next}
+use Rattle.algorithms.specs.declared.line.LocalLine.TheVariants.{Assign, AssignRow, Note, Goto, Branch, First, Next}
 use Rattle.algorithms.specs.declared.line.Members.{Members}
 use Rattle.algorithms.specs.declared.line.Members.TheVariants.{All, Others, Lower, Higher, Up, Down}
 use Rattle.algorithms.specs.declared.line.WordOf.{WordOf}
@@ -30,7 +33,8 @@ use Rattle.algorithm_texts.specs.declared.lines.Jump.{Jump}
 use Rattle.algorithm_texts.specs.declared.lines.Label.{Label}
 use Rattle.algorithm_texts.specs.declared.lines.Opened.{Opened}
 use Rattle.algorithm_texts.specs.Parts.{Term, Formula, term_of, formula_of}
-use Rattle.algorithm_texts.specs.Operands.{names_of, declared_of, named_constants}
+use Rattle.algorithm_texts.specs.Grammar.{DraftRow}
+use Rattle.algorithm_texts.specs.Operands.{names_of, rows_of, declared_of, named_constants}
 
 -- ---- lines
 
@@ -60,10 +64,16 @@ pub data DraftMembers : Type 0 where
   Rising : Term → Term → DraftMembers
   Falling : Term → Term → DraftMembers
 
+-- which values of a row a line sets: all, by the row's size, or the one at an index
+pub data DraftElements : Type 0 where
+  AllElements : Term → DraftElements
+  ElementAt : Term → DraftElements
+
 -- what a line is
 pub data LineForm : Type 0 where
   Accessing : AccessForm → LineForm
   Assigning : ℕ → Term → LineForm
+  SettingRow : ℕ → DraftElements → Term → LineForm
   Noting : AlgorithmDeed → LineForm
   Going : ℕ → LineForm
   Branching : Formula → ℕ → LineForm
@@ -96,8 +106,13 @@ members_form Higher = HigherProcesses
 members_form (Up a b) = Rising (term_of a) (term_of b)
 members_form (Down a b) = Falling (term_of a) (term_of b)
 
+abbrev pub elements_form : Elements → DraftElements
+elements_form (which.All size) = AllElements (term_of size)
+elements_form (which.At index) = ElementAt (term_of index)
+
 abbrev pub local_form : LocalLine → LineForm
 local_form (Assign name value) = Assigning name (term_of value)
+local_form (AssignRow row elements value) = SettingRow row (elements_form elements) (term_of value)
 local_form (Note deed) = Noting deed
 local_form (Goto place) = Going place
 local_form (Branch condition otherwise) = Branching (formula_of condition) otherwise
@@ -138,6 +153,7 @@ extents_of a = map (λ d. extent_of d.extent) a.declarations.items
 abbrev pub form_with_place : ℕ → LineForm → LineForm
 form_with_place place (Accessing a) = Accessing a
 form_with_place place (Assigning name value) = Assigning name value
+form_with_place place (SettingRow row elements value) = SettingRow row elements value
 form_with_place place (Noting deed) = Noting deed
 form_with_place place (Going target) = Going place
 form_with_place place (Branching condition otherwise) = Branching condition place
@@ -188,6 +204,7 @@ pub record DraftHead : Type 0 where
   pub most : ℕ
   pub promises : Promises
   pub constants : List (List ℕ × Term)
+  pub rows : List DraftRow
   pub bounds : List (Option Term)
   pub homes : List (Option Term)
   pub entries : Entries
@@ -199,6 +216,7 @@ head_of a = record {
   most = a.most;
   promises = a.promises;
   constants = named_constants a;
+  rows = rows_of a;
   bounds = map (λ d. option_map (λ b. term_of b) d.bound) a.declarations.items;
   homes = map (λ d. option_map (λ h. term_of h) d.home) a.declarations.items;
   entries = a.entries;
@@ -244,4 +262,26 @@ draft_view d = record {
   calls = reverse d.calls.items;
   claims = claims_of d.algorithm;
   claim_labels = d.claim_labels.items;
+}
+
+-- ---- rows of private names
+
+-- a number below 20 in decimal
+abbrev pub index_letters : ℕ → List ℕ
+index_letters k = if nat_lt k 10 then (48 + k) ∷ [] else 49 ∷ ((38 + k) ∷ [])
+
+-- the name at an index of a row. No name of a text has a bracket
+abbrev pub element_letters : List ℕ → ℕ → List ℕ
+element_letters name k = name ++ (91 ∷ (index_letters k ++ (93 ∷ [])))
+
+-- the names of a row
+abbrev pub names_of_row : List ℕ → List (List ℕ)
+names_of_row name = values_to (element_letters name) 16
+
+abbrev pub with_row : List ℕ → Term → Drafted → Drafted
+with_row name size d = record d {
+  names = d.names ++ names_of_row name;
+  lasting = length d.names + 16;
+  says_values = true;
+  head = record d.head { rows = d.head.rows ++ record { name = name; first = length d.names; size = size } ∷ [] };
 }

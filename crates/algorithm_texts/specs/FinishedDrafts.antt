@@ -6,8 +6,8 @@ use Rattle.algorithms.specs.declared.algorithm.AlgorithmCall.TheVariants.{Lock, 
 use Rattle.algorithm_texts.specs.declared.lines.CallRead.{CallRead}
 use Rattle.algorithm_texts.specs.declared.lines.Jump.{Jump}
 use Rattle.algorithm_texts.specs.declared.lines.Label.{Label}
-use Rattle.algorithm_texts.specs.Parts.{Term, Number, Private, Me, Procs, Limit, Joined, ◌>>=◌}
-use Rattle.algorithm_texts.specs.Drafts.{DraftMembers, AllProcesses, OtherProcesses, LowerProcesses, HigherProcesses, Rising, Falling, LineForm, Accessing, Assigning, Noting, Going, Branching, Beginning, Repeating, Ending, PlacedLine, leading, Drafted}
+use Rattle.algorithm_texts.specs.Parts.{Term, Number, Private, Element, Me, Procs, Limit, Joined, ◌>>=◌}
+use Rattle.algorithm_texts.specs.Drafts.{DraftMembers, AllProcesses, OtherProcesses, LowerProcesses, HigherProcesses, Rising, Falling, LineForm, Accessing, Assigning, SettingRow, Noting, Going, Branching, Beginning, Repeating, Ending, PlacedLine, leading, Drafted}
 use Rattle.algorithm_texts.specs.TextDrafts.{is_call}
 
 -- ---- gotos
@@ -126,6 +126,7 @@ is_in marks place = is_marked (slice_get marks place)
 abbrev pub literal_in : Term → Option ℕ
 literal_in (Number n) = Some n
 literal_in (Private k) = None
+literal_in (Element row i) = None
 literal_in Me = None
 literal_in Procs = None
 literal_in Limit = None
@@ -135,6 +136,7 @@ literal_in (Joined o a b) = None
 abbrev pub least_term : ℕ → Term → ℕ
 least_term least (Number n) = n
 least_term least (Private k) = 0
+least_term least (Element row i) = 0
 least_term least Me = 0
 least_term least Procs = least
 least_term least Limit = 0
@@ -153,6 +155,7 @@ loop_has_round least (Falling a b) = is_at_most (literal_in b) (least_term least
 abbrev pub ways : ℕ → ℕ → LineForm → List ℕ
 ways least next (Accessing a) = next ∷ []
 ways least next (Assigning name value) = next ∷ []
+ways least next (SettingRow row elements value) = next ∷ []
 ways least next (Noting deed) = next ∷ []
 ways least next (Going place) = place ∷ []
 ways least next (Branching condition otherwise) = next ∷ (otherwise ∷ [])

@@ -1,6 +1,5 @@
 -- What comes next in a line: its tokens, one after the other.
-use Rattle.std.specs.Prelude.{ℕ, ◌==◌, nat_eq, Bool, false, not, ◌||◌, List, [], ◌∷◌, length, take, drop, slice_get, Option, Some, None, if◌then◌else◌, codes, bytes_eq}
-use Rattle.std.specs.List.{prefix_len}
+use Rattle.std.specs.Prelude.{ℕ, ◌+◌, ◌-◌, ◌==◌, nat_eq, Bool, false, ◌&&◌, ◌||◌, List, [], ◌∷◌, length, take, drop, slice_get, Option, Some, None, if◌then◌else◌, codes, bytes_eq}
 use Rattle.algorithms.specs.declared.condition.Comparison.{Comparison}
 use Rattle.algorithms.specs.declared.condition.Comparison.TheVariants.{Equal, NotEqual, Less, AtMost, Greater, AtLeast}
 use Rattle.algorithms.specs.declared.expression.Operator.{Operator}
@@ -139,10 +138,23 @@ ends_value token =
     || is_the_word (Some token) (codes "if")
     || is_the_word (Some token) (codes "done")
     || is_the_sign (Some token) Assign
-    || is_the_sign (Some token) CloseIndex
+
+-- how many indexes are open after this token
+abbrev pub open_after : ℕ → Token → ℕ
+open_after depth token =
+    if is_the_sign (Some token) OpenIndex then depth + 1 else if is_the_sign (Some token) CloseIndex then depth - 1 else depth
+
+-- a value ends before this token, where this number of indexes is open: also before the end of an index that is not its own
+abbrev pub ends_here : ℕ → Token → Bool
+ends_here depth token = ends_value token || (depth == 0 && is_the_sign (Some token) CloseIndex)
+
+-- how many tokens a value or a condition has, where this number of indexes is open
+abbrev pub value_size_in : ℕ → List Token → ℕ
+value_size_in depth [] = 0
+value_size_in depth (token ∷ tokens) = if ends_here depth token then 0 else value_size_in (open_after depth token) tokens + 1
 
 abbrev pub value_size : List Token → ℕ
-value_size tokens = prefix_len (λ token. not (ends_value token)) tokens
+value_size tokens = value_size_in 0 tokens
 
 -- the tokens of a value or a condition, and those after it
 abbrev pub value_tokens : List Token → List Token

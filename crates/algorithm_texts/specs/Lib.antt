@@ -6,6 +6,7 @@ pub mod Stacks
 pub mod Operands
 pub mod Fronts
 pub mod Drafts
+pub mod LineParts
 pub mod LineDrafts
 pub mod NewNames
 pub mod NeverClaims
@@ -22,5 +23,6 @@ pub mod Blocks
 pub mod Programs
 pub mod Sayings
 pub mod TextFaults
+pub mod PartFaults
 pub mod LineFaults
 pub mod Likeness

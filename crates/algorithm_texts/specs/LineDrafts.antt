@@ -1,208 +1,18 @@
 -- Reading the lines of a call from the left: what each of them makes of a draft, or None where it is refused.
-use Rattle.std.specs.Prelude.{◌≡◌, ℕ, ◌+◌, nat_lt, nat_eq, Bool, true, false, not, ◌&&◌, ◌||◌, List, [], ◌∷◌, ◌++◌, length, take, drop, slice_get, slice_set, Option, Some, None, Result, Ok, Err, if◌then◌else◌, codes, bytes_eq, position}
+use Rattle.std.specs.Prelude.{ℕ, ◌+◌, nat_lt, nat_eq, Bool, true, false, not, ◌&&◌, ◌||◌, List, [], ◌∷◌, ◌++◌, length, take, drop, slice_get, slice_set, Option, Some, None, if◌then◌else◌, codes, bytes_eq, position}
 use Rattle.std.specs.List.{prefix_len}
-use Rattle.algorithms.specs.declared.expression.Operator.TheVariants.{Sum, Product, Within}
-use Rattle.algorithms.specs.declared.fault.ReadFault.{ReadFault}
+use Rattle.algorithms.specs.declared.expression.Operator.TheVariants.{Within}
 use Rattle.algorithm_texts.specs.declared.lines.Block.{Block}
 use Rattle.algorithm_texts.specs.declared.lines.Block.TheVariants.{If, Else, For}
 use Rattle.algorithm_texts.specs.declared.lines.Opened.{Opened}
-use Rattle.algorithm_texts.specs.declared.tokens.Sign.TheVariants.{Assign, OpenIndex, CloseIndex, Colon}
+use Rattle.algorithm_texts.specs.declared.tokens.Sign.TheVariants.{Assign, OpenIndex, Colon}
 use Rattle.algorithm_texts.specs.declared.tokens.Token.{Token}
 use Rattle.algorithm_texts.specs.declared.tokens.Token.TheVariants.{Number, Word, Sign}
-use Rattle.algorithm_texts.specs.Parts.{Term, Formula, OperandPart, Value, Pair, Condition, Private, Number as NumberTerm, Me, Procs, Limit, Joined, value_in, condition_in, ◌>>=◌}
-use Rattle.algorithm_texts.specs.Grammar.{Scope, is_among, is_constant_name, private_name_part}
-use Rattle.algorithm_texts.specs.Operands.{reserved, RefusesAs}
-use Rattle.algorithm_texts.specs.Stacks.{read_part}
-use Rattle.algorithm_texts.specs.Fronts.{is_the_word, is_the_sign, letters_of, value_if, past_word, past_sign, is_over, deed_said, members_said, past_withdraw, value_tokens, value_rest, begins_no_simple}
-use Rattle.algorithm_texts.specs.Drafts.{SharedWord, DraftMembers, AllProcesses, Rising, Falling, members_form, PlacedLine, DraftExtent, OneWord, OfProcesses, OfSize, OfRows, DraftAction, Loading, Storing, Awaiting, Swapping, LineForm, Accessing, Assigning, Noting, Going, Branching, Beginning, Repeating, Ending, leading, Drafted}
-
--- what a function makes of a draft is what the definition gives, where that is something. Else its fault is of this kind
-abbrev pub Drafts : {A : Type 0} → Drafted → Result A ReadFault → Option Drafted → ReadFault → Type 0
-Drafts now (Ok x) o kind = o ≡ Some now
-Drafts now (Err fault) o kind = RefusesAs fault o kind
-
--- ---- values
-
-abbrev pub read_value : Scope → List (List ℕ) → List Token → Option (Term × List (List ℕ))
-read_value scope names tokens = do
-  x ← read_part scope names tokens
-  v ← value_in x.0
-  Some (v, x.1)
-
-abbrev pub read_condition : Scope → List (List ℕ) → List Token → Option (Formula × List (List ℕ))
-read_condition scope names tokens = do
-  x ← read_part scope names tokens
-  c ← condition_in x.0
-  Some (c, x.1)
-
--- ---- names
-
-abbrev pub scope_in : Drafted → Scope
-scope_in d = record { reserved = reserved; constants = d.head.constants; declared = d.declared; most = 32 }
-
--- the words that are numbers
-abbrev pub is_constant : List ℕ → Bool
-is_constant word = bytes_eq word (codes "me") || bytes_eq word (codes "procs") || bytes_eq word (codes "limit")
-
--- a word as a new name
-abbrev pub new_name_in : List ℕ → Option (List ℕ)
-new_name_in word = if is_constant word then None else if is_among reserved word then None else Some word
-
-abbrev pub new_name : Option Token → Option (List ℕ)
-new_name token = letters_of token >>= new_name_in
-
--- a word that may be a name: no word of the format
-abbrev pub is_name : Option Token → Bool
-is_name None = false
-is_name (Some (Number n)) = false
-is_name (Some (Word letters)) = not (is_among reserved letters)
-is_name (Some (Sign sign)) = false
-
--- a constant or a shared word has this name
-abbrev pub has_declaration : Scope → List ℕ → Bool
-has_declaration scope word = is_among scope.declared word || is_constant_name scope.constants word
-
--- a private name that a line sets, as a part, and the names after it
-abbrev pub name_set : Scope → List (List ℕ) → Option Token → Option (OperandPart × List (List ℕ))
-name_set scope names token = do
-  word ← new_name token
-  if has_declaration scope word then None else private_name_part scope.most names word (position (λ name. bytes_eq name word) names)
-
-abbrev pub index_in : OperandPart → ℕ
-index_in (Value (Private k)) = k
-index_in (Value (NumberTerm n)) = 0
-index_in (Value Me) = 0
-index_in (Value Procs) = 0
-index_in (Value Limit) = 0
-index_in (Value (Joined o a b)) = 0
-index_in (Pair a b) = 0
-index_in (Condition c) = 0
-
--- ---- parts of a line
-
-abbrev pub with_names : List (List ℕ) → Drafted → Drafted
-with_names names d = record d { names = names }
-
--- a line at the end
-abbrev pub with_form : LineForm → Drafted → Drafted
-with_form form d = record d { lines = d.lines ++ record { number = d.number; form = form } ∷ [] }
-
-abbrev pub extent_or_one : Option DraftExtent → DraftExtent
-extent_or_one None = OneWord
-extent_or_one (Some extent) = extent
-
--- an index in brackets, the tokens after it, and the names
-abbrev pub read_brackets : Scope → List (List ℕ) → List Token → Option (Term × List Token × List (List ℕ))
-read_brackets scope names tokens = do
-  inner ← past_sign tokens OpenIndex
-  v ← read_value scope names (value_tokens inner)
-  rest ← past_sign (value_rest inner) CloseIndex
-  Some (v.0, rest, v.1)
-
-abbrev pub read_one_index : Scope → List (List ℕ) → List Token → Option (Option Term × List Token × List (List ℕ))
-read_one_index scope names tokens = do
-  i ← read_brackets scope names tokens
-  Some (Some i.0, i.1, i.2)
-
--- the place of a word in a table with this number of words in a row, of which the second index is one
-abbrev pub table_place : Term → Term → Term → Term
-table_place columns i j = Joined Sum (Joined Product i columns) (Joined Within j columns)
-
-abbrev pub read_two_indexes : Scope → Term → List (List ℕ) → List Token → Option (Option Term × List Token × List (List ℕ))
-read_two_indexes scope columns names tokens = do
-  i ← read_brackets scope names tokens
-  j ← read_brackets scope i.2 i.1
-  Some (Some (table_place columns i.0 j.0), j.1, j.2)
-
--- the place of a word in an array, the tokens after its indexes, and the names
-abbrev pub read_index : Scope → DraftExtent → List (List ℕ) → List Token → Option (Option Term × List Token × List (List ℕ))
-read_index scope OneWord names tokens = if is_the_sign (slice_get tokens 0) OpenIndex then None else Some (None, tokens, names)
-read_index scope OfProcesses names tokens = read_one_index scope names tokens
-read_index scope (OfSize size) names tokens = read_one_index scope names tokens
-read_index scope (OfRows size columns) names tokens = read_two_indexes scope columns names tokens
-
--- a word of the k-th declaration
-abbrev pub read_word_of : Scope → List DraftExtent → List (List ℕ) → ℕ → List Token → Option (SharedWord × List Token × List (List ℕ))
-read_word_of scope extents names k tokens = do
-  i ← read_index scope (extent_or_one (slice_get extents k)) names (drop 1 tokens)
-  Some (record { declaration = k; index = i.0 }, i.1, i.2)
-
-abbrev pub read_word : Scope → List DraftExtent → List (List ℕ) → List Token → Option (SharedWord × List Token × List (List ℕ))
-read_word scope extents names tokens = do
-  name ← letters_of (slice_get tokens 0)
-  k ← position (λ other. bytes_eq other name) scope.declared
-  read_word_of scope extents names k tokens
-
-abbrev pub read_deed : Drafted → List Token → Option Drafted
-read_deed d tokens = do
-  deed ← deed_said tokens
-  Some (with_form (Noting deed) d)
-
-abbrev pub read_access : Drafted → SharedWord → DraftAction → List Token → Option Drafted
-read_access d word act tokens = do
-  rest ← past_withdraw tokens
-  if is_over rest then Some (with_form (Accessing (record { word = word; act = act; may_withdraw = is_the_word (slice_get tokens 0) (codes "may") })) d)
-      else read_deed (with_form (Accessing (record { word = word; act = act; may_withdraw = is_the_word (slice_get tokens 0) (codes "may") })) d) rest
-
-abbrev pub read_until : Scope → List (List ℕ) → List Token → Option (Formula × List Token × List (List ℕ))
-read_until scope names tokens = do
-  inner ← past_word tokens (codes "until")
-  c ← read_condition scope names (value_tokens inner)
-  Some (c.0, value_rest inner, c.1)
-
--- ---- swaps: `swap WORD to VALUE if CONDITION`, the condition where there is one
-
--- a swap comes next: the word `swap`, which is a name elsewhere, with a name after it
-abbrev pub begins_swap : List Token → Bool
-begins_swap tokens = is_the_word (slice_get tokens 0) (codes "swap") && is_name (slice_get tokens 1)
-
-abbrev pub read_guard_condition : Scope → List (List ℕ) → List Token → Option (Option Formula × List Token × List (List ℕ))
-read_guard_condition scope names tokens = do
-  c ← read_condition scope names (value_tokens tokens)
-  Some (Some c.0, value_rest tokens, c.1)
-
--- `if CONDITION`, where it comes next, the tokens after it, and the names
-abbrev pub read_guard : Scope → List (List ℕ) → List Token → Option (Option Formula × List Token × List (List ℕ))
-read_guard scope names tokens =
-    if is_the_word (slice_get tokens 0) (codes "if") then read_guard_condition scope names (drop 1 tokens) else Some (None, tokens, names)
-
--- `to VALUE if CONDITION`: what a swap stores, and where; the tokens after it, and the names
-abbrev pub read_swap_value : Scope → List (List ℕ) → List Token → Option (Term × Option Formula × List Token × List (List ℕ))
-read_swap_value scope names tokens = do
-  inner ← past_word tokens (codes "to")
-  v ← read_value scope names (value_tokens inner)
-  guard ← read_guard scope v.1 (value_rest inner)
-  Some (v.0, guard.0, guard.1, guard.2)
-
--- `to VALUE if CONDITION` after `NAME := swap WORD`
-abbrev pub read_swap_word : Drafted → ℕ → SharedWord → List Token → Option Drafted
-read_swap_word d name word tokens = do
-  r ← read_swap_value (scope_in d) d.names tokens
-  read_access (with_names r.3 d) word (Swapping name r.0 r.1 None) r.2
-
--- `WORD to VALUE if CONDITION` after `NAME := swap`
-abbrev pub read_swap : Drafted → ℕ → List Token → Option Drafted
-read_swap d name tokens = do
-  word ← read_word (scope_in d) d.extents d.names tokens
-  read_swap_word (with_names word.2 d) name word.0 word.1
-
--- `until CONDITION` after `await NAME := swap WORD to VALUE if CONDITION`
-abbrev pub read_await_swap : Drafted → SharedWord → ℕ → Term → Option Formula → List Token → Option Drafted
-read_await_swap d word name value guard tokens = do
-  until ← read_until (scope_in d) d.names tokens
-  read_access (with_names until.2 d) word (Swapping name value guard (Some until.0)) until.1
-
--- `to VALUE if CONDITION until CONDITION` after `await NAME := swap WORD`
-abbrev pub read_await_swap_word : Drafted → ℕ → SharedWord → List Token → Option Drafted
-read_await_swap_word d name word tokens = do
-  r ← read_swap_value (scope_in d) d.names tokens
-  read_await_swap (with_names r.3 d) word name r.0 r.1 r.2
-
--- `WORD to VALUE if CONDITION until CONDITION` after `await NAME := swap`
-abbrev pub read_awaited_swap : Drafted → ℕ → List Token → Option Drafted
-read_awaited_swap d name tokens = do
-  word ← read_word (scope_in d) d.extents d.names tokens
-  read_await_swap_word (with_names word.2 d) name word.0 word.1
+use Rattle.algorithm_texts.specs.Parts.{Term, Private, Number as NumberTerm, Me, Procs, Limit, Joined, Element, ◌>>=◌}
+use Rattle.algorithm_texts.specs.Grammar.{Scope, is_among, is_row_name, row_read}
+use Rattle.algorithm_texts.specs.Fronts.{is_the_word, is_the_sign, letters_of, value_if, past_word, past_sign, is_over, members_said, value_tokens, value_rest, begins_no_simple}
+use Rattle.algorithm_texts.specs.Drafts.{SharedWord, DraftMembers, AllProcesses, Rising, Falling, members_form, PlacedLine, Loading, Storing, Awaiting, LineForm, Assigning, DraftElements, AllElements, ElementAt, SettingRow, Going, Branching, Beginning, Repeating, Ending, leading, Drafted}
+pub use Rattle.algorithm_texts.specs.LineParts.{Drafts, read_value, read_condition, scope_in, is_constant, new_name_in, new_name, is_name, has_declaration, name_set, index_in, with_names, with_form, extent_or_one, read_brackets, read_one_index, table_place, read_two_indexes, read_index, read_word_of, read_word, read_deed, read_access, read_until, begins_swap, read_guard_condition, read_guard, read_swap_value, read_swap_word, read_swap, read_await_swap, read_await_swap_word, read_awaited_swap}
 
 -- ---- statements that are no blocks
 
@@ -249,11 +59,11 @@ read_load d name tokens = do
   if is_no_word (slice_get word.1 0) then None else read_access (with_names word.2 d) word.0 (Loading name) word.1
 
 -- a shared word comes next
-abbrev pub begins_word : List (List ℕ) → Option Token → Option Token → Bool
-begins_word declared None second = false
-begins_word declared (Some (Number n)) second = false
-begins_word declared (Some (Word word)) second = is_among declared word || is_the_sign second OpenIndex
-begins_word declared (Some (Sign sign)) second = false
+abbrev pub begins_word : Scope → Option Token → Option Token → Bool
+begins_word scope None second = false
+begins_word scope (Some (Number n)) second = false
+begins_word scope (Some (Word word)) second = is_among scope.declared word || (is_the_sign second OpenIndex && not (is_row_name scope.rows word))
+begins_word scope (Some (Sign sign)) second = false
 
 abbrev pub read_assigned_value : Drafted → ℕ → List Token → Option Drafted
 read_assigned_value d name tokens = do
@@ -263,7 +73,7 @@ read_assigned_value d name tokens = do
 abbrev pub read_assigned : Drafted → ℕ → List Token → Option Drafted
 read_assigned d name tokens =
     if begins_swap tokens then read_swap d name (drop 1 tokens)
-    else if begins_word d.declared (slice_get tokens 0) (slice_get tokens 1) then read_load d name tokens
+    else if begins_word (scope_in d) (slice_get tokens 0) (slice_get tokens 1) then read_load d name tokens
     else read_assigned_value d name tokens
 
 abbrev pub read_set_to : Drafted → ℕ → List Token → Option Drafted
@@ -276,13 +86,47 @@ read_private_assignment d tokens = do
   name ← name_set (scope_in d) d.names (slice_get tokens 0)
   read_set_to (with_names name.1 d) (index_in name.0) (drop 1 tokens)
 
+-- ---- rows of private names
+
+-- the value of values of a row
+abbrev pub read_row_value : Drafted → ℕ → DraftElements → List Token → Option Drafted
+read_row_value d first elements tokens = do
+  v ← read_value (scope_in d) d.names (value_tokens tokens)
+  value_if (is_over (value_rest tokens)) (Some (with_form (SettingRow first elements v.0) (with_names v.1 d)))
+
+-- `[INDEX] := VALUE` after the name of a row
+abbrev pub read_element_set : Drafted → ℕ → Term → List Token → Option Drafted
+read_element_set d first size tokens = do
+  i ← read_brackets (scope_in d) d.names tokens
+  rest ← past_sign i.1 Assign
+  read_row_value (with_names i.2 d) first (ElementAt (Joined Within i.0 size)) rest
+
+-- a row is not set to a shared word
+abbrev pub begins_access : Scope → List Token → Bool
+begins_access scope tokens = begins_swap tokens || begins_word scope (slice_get tokens 0) (slice_get tokens 1)
+
+-- `:= VALUE` after the name of a row
+abbrev pub read_all_set : Drafted → ℕ → Term → List Token → Option Drafted
+read_all_set d first size tokens = do
+  rest ← past_sign tokens Assign
+  if begins_access (scope_in d) rest then None else read_row_value d first (AllElements size) rest
+
+abbrev pub read_row_set : Drafted → ℕ → Term → List Token → Option Drafted
+read_row_set d first size tokens =
+    if is_the_sign (slice_get tokens 0) OpenIndex then read_element_set d first size tokens else read_all_set d first size tokens
+
+-- what is set whose name is no shared word: a row, where it is one, else a private name
+abbrev pub read_private_set : Drafted → List Token → Option (ℕ × Term) → Option Drafted
+read_private_set d tokens (Some row) = read_row_set d row.0 row.1 (drop 1 tokens)
+read_private_set d tokens None =
+    if is_the_sign (slice_get tokens 1) OpenIndex then None
+    else if is_the_sign (slice_get tokens 1) Assign then read_private_assignment d tokens
+    else None
+
 abbrev pub read_assignment : Drafted → List Token → Option Drafted
 read_assignment d tokens = do
   first ← letters_of (slice_get tokens 0)
-  if is_among d.declared first then read_store d tokens
-      else if is_the_sign (slice_get tokens 1) OpenIndex then None
-      else if is_the_sign (slice_get tokens 1) Assign then read_private_assignment d tokens
-      else None
+  if is_among d.declared first then read_store d tokens else read_private_set d tokens (row_read (scope_in d) first)
 
 -- the index of an answer
 abbrev pub answer_place : List (List ℕ) → List ℕ → Option ℕ → ℕ × List (List ℕ)
@@ -386,6 +230,7 @@ is_fixed (Private k) = false
 is_fixed Me = true
 is_fixed Procs = true
 is_fixed Limit = true
+is_fixed (Element row i) = false
 is_fixed (Joined o a b) = is_fixed a && is_fixed b
 
 -- the first end of such a loop ends before this token

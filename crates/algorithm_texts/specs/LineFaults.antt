@@ -1,5 +1,5 @@
 -- The fault of a line that has no form. A line is read from the left: the first part that is not what is expected there decides.
-use Rattle.std.specs.Prelude.{ℕ, ◌==◌, nat_lt, Bool, false, ◌&&◌, ◌||◌, List, [], ◌∷◌, length, take, drop, slice_get, Option, Some, None, if◌then◌else◌, codes, bytes_eq, position}
+use Rattle.std.specs.Prelude.{ℕ, ◌+◌, ◌==◌, nat_lt, nat_le, Bool, false, ◌&&◌, ◌||◌, List, [], ◌∷◌, length, take, drop, slice_get, Option, Some, None, if◌then◌else◌, codes}
 use Rattle.std.specs.List.{list_any}
 use Rattle.algorithms.specs.declared.condition.Comparison.TheVariants.{Equal}
 use Rattle.algorithms.specs.declared.fault.ReadFault.{ReadFault}
@@ -7,126 +7,16 @@ use Rattle.algorithms.specs.declared.fault.ReadFault.TheVariants.{NoHeader, BadF
 use Rattle.algorithm_texts.specs.declared.lines.Block.{Block}
 use Rattle.algorithm_texts.specs.declared.lines.Block.TheVariants.{If, Else, For}
 use Rattle.algorithm_texts.specs.declared.lines.Opened.{Opened}
-use Rattle.algorithm_texts.specs.declared.tokens.Sign.TheVariants.{Assign, Open, OpenIndex, Colon, Comma, Comparison}
+use Rattle.algorithm_texts.specs.declared.tokens.Sign.TheVariants.{Assign, OpenIndex, Colon, Comma, Comparison}
 use Rattle.algorithm_texts.specs.declared.tokens.Token.{Token}
-use Rattle.algorithm_texts.specs.declared.tokens.Token.TheVariants.{Number as NumberToken, Word, Sign}
-use Rattle.algorithm_texts.specs.Parts.{Term, Number, Private, Me, Procs, Limit, Joined, OperandPart, Value, Pair, Condition}
-use Rattle.algorithm_texts.specs.Grammar.{Scope, is_among}
-use Rattle.algorithm_texts.specs.Stacks.{NextToken, Begins, Heads, Follows, OperandReading, reading, turn}
+use Rattle.algorithm_texts.specs.Parts.{Term}
+use Rattle.algorithm_texts.specs.Grammar.{Scope, is_among, row_read}
 use Rattle.algorithm_texts.specs.Fronts.{is_me, is_the_word, is_the_sign, letters_of, past_word, past_sign, is_over, named_by, value_tokens, value_rest, begins_no_simple}
-use Rattle.algorithm_texts.specs.Drafts.{Drafted, DraftExtent, OneWord, OfProcesses, OfSize, OfRows}
-use Rattle.algorithm_texts.specs.LineDrafts.{scope_in, is_constant, has_declaration, new_name, name_set, index_in, with_names, read_value, read_condition, extent_or_one, read_brackets, read_word, read_until, read_swap_value, begins_swap, begins_word, is_no_word, read_test, is_looping, first_size, down_at_front, read_members}
-use Rattle.algorithm_texts.specs.NeverClaims.{FactsRead, begins_test, first_name, no_facts, phase_words, read_facts, read_named_processes, read_processes, read_value_fact, with_token}
+use Rattle.algorithm_texts.specs.Drafts.{Drafted}
+use Rattle.algorithm_texts.specs.LineDrafts.{scope_in, new_name, name_set, index_in, with_names, read_value, read_condition, read_word, read_until, read_swap_value, begins_swap, begins_word, begins_access, read_brackets, is_no_word, read_test, is_looping, first_size, down_at_front, read_members}
+use Rattle.algorithm_texts.specs.NeverClaims.{FactsRead, begins_test, first_name, no_facts, phase_words, read_facts, read_processes, read_value_fact, with_token, without_rows}
 use Rattle.algorithm_texts.specs.TextDrafts.{call_words, undeclared_name, is_bound, atoms, owner_tokens, bound_size, read_bound, read_bound_and_start, size_before_home, read_size, read_extent, is_array, end_call, read_head_words}
-
--- the fault of a part, where nothing is made of it, else that of what follows it
-abbrev pub fault_from : {A : Type 0} → Option A → ReadFault → (A → ReadFault) → ReadFault
-fault_from None fault following = fault
-fault_from (Some x) fault following = following x
-
--- ---- names
-
--- of a word of the format where a new name is needed: its numbers are never set, its other words are taken
-abbrev pub new_word_fault : List ℕ → ReadFault
-new_word_fault word = if is_constant word then NotAssignable else NameTaken
-
-abbrev pub new_name_fault : Option Token → ReadFault
-new_name_fault token = fault_from (letters_of token) BadForm new_word_fault
-
--- of a name that can't be set: a constant, a shared word, or one private name too many
-abbrev pub set_word_fault : Scope → List ℕ → ReadFault
-set_word_fault scope word = if has_declaration scope word then NotAssignable else TooBig
-
-abbrev pub name_set_fault : Scope → Option Token → ReadFault
-name_set_fault scope token = fault_from (new_name token) (new_name_fault token) (set_word_fault scope)
-
--- of a word that is no value: a word of the format, a shared word, or one private name too many
-abbrev pub name_read_fault : Scope → List ℕ → ReadFault
-name_read_fault scope word = if is_among scope.reserved word then BadForm else if is_among scope.declared word then TwoAccesses else TooBig
-
-abbrev pub undeclared_name_fault : Option Token → ReadFault
-undeclared_name_fault token = fault_from (new_name token) (new_name_fault token) (λ word. NameTaken)
-
--- ---- values and conditions: the first token that does not go on with a value or a condition
-
--- where a part begins: a word that is no value, or one bracket too deep
-abbrev pub begun_fault : Scope → Token → ReadFault
-begun_fault scope (NumberToken n) = BadForm
-begun_fault scope (Word word) = name_read_fault scope word
-begun_fault scope (Sign Open) = TooBig
-begun_fault scope (Sign other) = BadForm
-
--- after the word before a bracket
-abbrev pub headed_fault : Token → ReadFault
-headed_fault (Sign Open) = TooBig
-headed_fault other = BadForm
-
--- of an index after a value: after a name it would be that of a shared word which is not declared
-abbrev pub index_fault : OperandPart → ReadFault
-index_fault (Value (Private k)) = UnknownName
-index_fault (Value (Number n)) = BadForm
-index_fault (Value Me) = BadForm
-index_fault (Value Procs) = BadForm
-index_fault (Value Limit) = BadForm
-index_fault (Value (Joined o a b)) = BadForm
-index_fault (Pair a b) = BadForm
-index_fault (Condition c) = BadForm
-
--- after a part
-abbrev pub followed_fault : OperandPart → Token → ReadFault
-followed_fault part (Sign OpenIndex) = index_fault part
-followed_fault part other = BadForm
-
-abbrev pub token_fault : Scope → NextToken → Token → ReadFault
-token_fault scope Begins token = begun_fault scope token
-token_fault scope (Heads head) token = headed_fault token
-token_fault scope (Follows part) token = followed_fault part token
-
--- of the first token that is not taken, or of what is left open at the end
-abbrev pub run_fault : Scope → List Token → OperandReading → ReadFault
-run_fault scope [] r = BadForm
-run_fault scope (token ∷ tokens) r = fault_from (turn scope r token) (token_fault scope r.next token) (run_fault scope tokens)
-
-abbrev pub value_fault : Scope → List (List ℕ) → List Token → ReadFault
-value_fault scope names tokens = run_fault scope tokens (reading names [] Begins)
-
--- ---- parts of a line
-
--- of an index in brackets, or of its lack
-abbrev pub brackets_fault : Scope → List (List ℕ) → List Token → ReadFault
-brackets_fault scope names tokens =
-    fault_from (past_sign tokens OpenIndex) BadForm
-    (λ inner. fault_from (read_value scope names (value_tokens inner)) (value_fault scope names (value_tokens inner)) (λ v. BadForm))
-
-abbrev pub two_indexes_fault : Scope → List (List ℕ) → List Token → ReadFault
-two_indexes_fault scope names tokens =
-    fault_from (read_brackets scope names tokens) (brackets_fault scope names tokens) (λ i. brackets_fault scope i.2 i.1)
-
-abbrev pub read_index_fault : Scope → DraftExtent → List (List ℕ) → List Token → ReadFault
-read_index_fault scope OneWord names tokens = BadForm
-read_index_fault scope OfProcesses names tokens = brackets_fault scope names tokens
-read_index_fault scope (OfSize size) names tokens = brackets_fault scope names tokens
-read_index_fault scope (OfRows size columns) names tokens = two_indexes_fault scope names tokens
-
-abbrev pub word_of_fault : Scope → List DraftExtent → List (List ℕ) → List Token → ℕ → ReadFault
-word_of_fault scope extents names tokens k = read_index_fault scope (extent_or_one (slice_get extents k)) names (drop 1 tokens)
-
-abbrev pub named_word_fault : Scope → List DraftExtent → List (List ℕ) → List Token → List ℕ → ReadFault
-named_word_fault scope extents names tokens name =
-    fault_from (position (λ other. bytes_eq other name) scope.declared) UnknownName (word_of_fault scope extents names tokens)
-
--- of a shared word: no name, a name that is not declared, or an index
-abbrev pub shared_word_fault : Scope → List DraftExtent → List (List ℕ) → List Token → ReadFault
-shared_word_fault scope extents names tokens =
-    fault_from (letters_of (slice_get tokens 0)) BadForm (named_word_fault scope extents names tokens)
-
--- of `until CONDITION`, and of `to VALUE`: the word, or what follows it
-abbrev pub value_after_fault : Scope → List (List ℕ) → List Token → List ℕ → ReadFault
-value_after_fault scope names tokens word =
-    fault_from (past_word tokens word) BadForm (λ inner. value_fault scope names (value_tokens inner))
-
-abbrev pub until_fault : Scope → List (List ℕ) → List Token → ReadFault
-until_fault scope names tokens = value_after_fault scope names tokens (codes "until")
+pub use Rattle.algorithm_texts.specs.PartFaults.{fault_from, new_word_fault, new_name_fault, set_word_fault, name_set_fault, name_read_fault, undeclared_name_fault, begun_fault, headed_fault, rowed_fault, index_fault, followed_fault, token_fault, run_fault, value_fault, brackets_fault, two_indexes_fault, read_index_fault, word_of_fault, named_word_fault, shared_word_fault, value_after_fault, until_fault}
 
 -- ---- swaps
 
@@ -219,7 +109,7 @@ assigned_value_fault d tokens =
 abbrev pub assigned_fault : Drafted → List Token → ReadFault
 assigned_fault d tokens =
     if begins_swap tokens then swap_fault d (drop 1 tokens)
-    else if begins_word d.declared (slice_get tokens 0) (slice_get tokens 1) then load_fault d tokens
+    else if begins_word (scope_in d) (slice_get tokens 0) (slice_get tokens 1) then load_fault d tokens
     else assigned_value_fault d tokens
 
 abbrev pub set_to_fault : Drafted → List Token → ReadFault
@@ -230,13 +120,32 @@ private_assignment_fault d tokens =
     fault_from (name_set (scope_in d) d.names (slice_get tokens 0)) (name_set_fault (scope_in d) (slice_get tokens 0))
     (λ name. set_to_fault (with_names name.1 d) (drop 1 tokens))
 
+-- of `[INDEX] := VALUE` after the name of a row
+abbrev pub element_set_fault : Drafted → List Token → ReadFault
+element_set_fault d tokens =
+    fault_from (read_brackets (scope_in d) d.names tokens) (brackets_fault (scope_in d) d.names tokens)
+    (λ i. fault_from (past_sign i.1 Assign) BadForm (assigned_value_fault (with_names i.2 d)))
+
+-- of `:= VALUE` after the name of a row: a shared word is not read into a row
+abbrev pub all_set_fault : Drafted → List Token → ReadFault
+all_set_fault d tokens =
+    fault_from (past_sign tokens Assign) BadForm
+    (λ rest. if begins_access (scope_in d) rest then NotAssignable else assigned_value_fault d rest)
+
+abbrev pub row_set_fault : Drafted → List Token → ReadFault
+row_set_fault d tokens = if is_the_sign (slice_get tokens 0) OpenIndex then element_set_fault d tokens else all_set_fault d tokens
+
+abbrev pub private_set_fault : Drafted → List Token → Option (ℕ × Term) → ReadFault
+private_set_fault d tokens (Some row) = row_set_fault d (drop 1 tokens)
+private_set_fault d tokens None =
+    if is_the_sign (slice_get tokens 1) OpenIndex then UnknownName
+    else if is_the_sign (slice_get tokens 1) Assign then private_assignment_fault d tokens
+    else BadForm
+
 -- of a line that begins with this word
 abbrev pub assigning_fault : Drafted → List Token → List ℕ → ReadFault
 assigning_fault d tokens first =
-    if is_among d.declared first then store_fault d tokens
-    else if is_the_sign (slice_get tokens 1) OpenIndex then UnknownName
-    else if is_the_sign (slice_get tokens 1) Assign then private_assignment_fault d tokens
-    else BadForm
+    if is_among d.declared first then store_fault d tokens else private_set_fault d tokens (row_read (scope_in d) first)
 
 abbrev pub assignment_fault : Drafted → List Token → ReadFault
 assignment_fault d tokens = fault_from (letters_of (slice_get tokens 0)) BadForm (assigning_fault d tokens)
@@ -373,11 +282,20 @@ shared_fault d tokens =
     (λ extent. word_values_fault (scope_in d) (is_array extent.0) extent.2 extent.1)
     else TooBig)
 
+-- of the size of a row, or too many names
+abbrev pub row_fault : Drafted → List Token → ReadFault
+row_fault d tokens =
+    fault_from (read_size (scope_in d) d.names tokens) (brackets_fault (scope_in d) d.names tokens)
+    (λ size. if nat_le (length d.names + 16) 64 then BadForm else TooBig)
+
 -- a private name too many comes before what follows it
+abbrev pub single_fault : Drafted → ReadFault
+single_fault d = if nat_lt (length d.names) 64 then BadForm else TooBig
+
 abbrev pub private_fault : Drafted → List Token → ReadFault
 private_fault d tokens =
     fault_from (undeclared_name (scope_in d) d.names (slice_get tokens 0)) (undeclared_name_fault (slice_get tokens 0))
-    (λ name. if nat_lt (length d.names) 32 then BadForm else TooBig)
+    (λ name. if is_the_sign (slice_get tokens 1) OpenIndex then row_fault d (drop 1 tokens) else single_fault d)
 
 -- of the value of a constant: one of numbers, `procs` and `limit` alone is too long, another has no form
 abbrev pub constant_form_fault : Term → ReadFault
@@ -448,8 +366,8 @@ claim_fault d tokens =
 
 abbrev pub never_fault : Drafted → List Token → ReadFault
 never_fault d tokens =
-    fault_from (read_processes (scope_in d) tokens) (named_processes_fault (scope_in d) (drop 1 tokens))
-    (λ processes. claim_fault (with_names processes.0 d) processes.1)
+    fault_from (read_processes (scope_in (without_rows d)) tokens) (named_processes_fault (scope_in (without_rows d)) (drop 1 tokens))
+    (λ processes. claim_fault (with_names processes.0 (without_rows d)) processes.1)
 
 abbrev pub declaration_fault : Drafted → List Token → ReadFault
 declaration_fault d tokens =

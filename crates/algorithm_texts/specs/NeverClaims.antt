@@ -69,7 +69,7 @@ fact_letters k = (48 + k / 10 % 10) ∷ (48 + k % 10) ∷ []
 -- one fact more, whose name stands before these tokens
 abbrev pub with_fact : FactForm → List Token → FactsRead → Option FactsRead
 with_fact fact tokens r =
-    if nat_lt (length r.names) 32
+    if nat_lt (length r.names) 64
     then Some (record {
       tokens = Word (fact_letters (length r.names)) ∷ tokens;
       facts = r.facts ++ fact ∷ [];
@@ -181,11 +181,15 @@ with_claim processes r condition d = record d {
   claim_labels = r.labels;
 }
 
+-- a claim names no row of private names
+abbrev pub without_rows : Drafted → Drafted
+without_rows d = record d { head = record d.head { rows = [] } }
+
 -- `CONDITION`, or `for NAMES: CONDITION`, after `never`
 abbrev pub read_never : Drafted → List Token → Option Drafted
 read_never d tokens = do
-  processes ← read_processes (scope_in d) tokens
-  claim ← read_claim (with_names processes.0 d) processes.1
+  processes ← read_processes (scope_in (without_rows d)) tokens
+  claim ← read_claim (with_names processes.0 (without_rows d)) processes.1
   Some (with_claim (length processes.0) claim.0 claim.1 d)
 
 -- ---- the labels that claims name

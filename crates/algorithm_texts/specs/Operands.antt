@@ -1,26 +1,28 @@
 -- The reader of values and conditions, without its memory.
 use Rattle.std.specs.Prelude.{◌≡◌, ◌⊎◌, ℕ, List, map, reverse, Option, Some, None, Result, Ok, Err, string_bytes}
 use Rattle.algorithms.specs.declared.algorithm.Algorithm.{Algorithm}
+use Rattle.algorithms.specs.declared.algorithm.NamedRow.{NamedRow}
 use Rattle.algorithms.specs.declared.condition.Condition.{Condition}
 use Rattle.algorithms.specs.declared.expression.Expression.{Expression}
 use Rattle.algorithms.specs.declared.fault.ReadFault.{ReadFault}
 use Rattle.algorithms.specs.declared.fault.ReadFault.TheVariants.{OutOfMemory, BadForm}
 use Rattle.algorithm_texts.specs.declared.operands.Operand.{Operand}
 use Rattle.algorithm_texts.specs.declared.stack.StackPlace.{StackPlace}
-use Rattle.algorithm_texts.specs.declared.stack.StackPlace.TheVariants.{Start, Head, After}
+use Rattle.algorithm_texts.specs.declared.stack.StackPlace.TheVariants.{Start, Head, Row, After}
 use Rattle.algorithm_texts.specs.declared.stack.Stack.{Stack}
 use Rattle.algorithm_texts.specs.declared.stack.Waiting.{Waiting}
-use Rattle.algorithm_texts.specs.declared.stack.Waiting.TheVariants.{Joint, Bracket, Half}
+use Rattle.algorithm_texts.specs.declared.stack.Waiting.TheVariants.{Joint, Bracket, Half, Index}
 use Rattle.algorithm_texts.specs.Parts.{OperandPart, Value, Condition as ConditionPart, Private, Term, Formula, part_of, term_of, formula_of}
 use Rattle.algorithm_texts.specs.declared.names.TheConstants.{RESERVED}
 use Rattle.algorithm_texts.specs.declared.tokens.Token.{Token}
-use Rattle.algorithm_texts.specs.Grammar.{Scope, Says}
-use Rattle.algorithm_texts.specs.Stacks.{Waits, Joining, Opened, Halfway, NextToken, Begins, Heads, Follows, OperandReading, reading}
+use Rattle.algorithm_texts.specs.Grammar.{Scope, DraftRow, Says}
+use Rattle.algorithm_texts.specs.Stacks.{Waits, Joining, Opened, Halfway, Indexing, NextToken, Begins, Heads, Indexes, Follows, OperandReading, reading}
 
 abbrev pub waits_of : Waiting → Waits
 waits_of (Joint left joint) = Joining (part_of left) joint
 waits_of (Bracket head) = Opened head
 waits_of (Half head first) = Halfway head (part_of first)
+waits_of (Index first size) = Indexing first (term_of size)
 
 -- what waits, the last first
 unfoldable pub stack_of : Stack → List Waits
@@ -29,6 +31,7 @@ stack_of stack = reverse (map waits_of stack.all.items)
 abbrev pub next_of : StackPlace → NextToken
 next_of Start = Begins
 next_of (Head head) = Heads head
+next_of (Row first size) = Indexes first (term_of size)
 next_of (After part) = Follows (part_of part)
 
 -- there is nothing, and the fault is of this kind, or memory runs out
@@ -86,13 +89,24 @@ declared_of a = map (λ d. string_bytes d.name) a.declarations.items
 abbrev pub named_constants : Algorithm → List (List ℕ × Term)
 named_constants a = map (λ c. (string_bytes c.name, term_of c.value)) a.constants.items
 
+-- the rows of private names
+abbrev pub row_of : NamedRow → DraftRow
+row_of row = record { name = string_bytes row.name; first = row.first; size = term_of row.size }
+
+-- the first name of a row and its size
+abbrev pub row_term : ℕ × Expression → ℕ × Term
+row_term row = (row.0, term_of row.1)
+
+abbrev pub rows_of : Algorithm → List DraftRow
+rows_of a = map row_of a.rows.items
+
 -- the words of the format
 unfoldable pub reserved : List (List ℕ)
 reserved = map (λ word. word.now) RESERVED
 
 -- what a text knows that has come so far
 abbrev pub scope_of : Algorithm → Scope
-scope_of a = record { reserved = reserved; constants = named_constants a; declared = declared_of a; most = 32 }
+scope_of a = record { reserved = reserved; constants = named_constants a; rows = rows_of a; declared = declared_of a; most = 64 }
 
 -- the tokens say no value, and no condition
 abbrev pub SayNoValue : Scope → List (List ℕ) → List Token → Type 0

@@ -2,7 +2,7 @@
 use Rattle.std.specs.Prelude.{ℕ, Option, Some, None, option_and_then}
 use Rattle.algorithms.specs.declared.condition.Comparison.{Comparison}
 use Rattle.algorithms.specs.declared.condition.Condition.{Condition as ConditionOf, Compare as CompareOf, ComparePairs as ComparePairsOf, And' as AndOf, Or' as OrOf, Not' as NotOf}
-use Rattle.algorithms.specs.declared.expression.Expression.{Expression as ValueOf, Number as NumberOf, Private as PrivateOf, Me as MeOf, Procs as ProcsOf, Limit as LimitOf, Joined' as JoinedOf}
+use Rattle.algorithms.specs.declared.expression.Expression.{Expression as ValueOf, Number as NumberOf, Private as PrivateOf, Element' as ElementOf, Me as MeOf, Procs as ProcsOf, Limit as LimitOf, Joined' as JoinedOf}
 use Rattle.algorithms.specs.declared.expression.Operator.{Operator}
 use Rattle.algorithms.specs.declared.expression.Operator.TheVariants.{Maximum, Minimum}
 use Rattle.algorithm_texts.specs.declared.operands.Bracket.{Bracket}
@@ -20,6 +20,7 @@ o >>= f = option_and_then f o
 pub data Term : Type 0 where
   Number : ℕ → Term
   Private : ℕ → Term
+  Element : ℕ → Term → Term
   Me : Term
   Procs : Term
   Limit : Term
@@ -44,6 +45,7 @@ pub data OperandPart : Type 0 where
 abbrev pub term_of : ValueOf → Term
 term_of (NumberOf n) = Number n
 term_of (PrivateOf k) = Private k
+term_of (ElementOf row p index) = Element row (term_of index)
 term_of MeOf = Me
 term_of ProcsOf = Procs
 term_of LimitOf = Limit

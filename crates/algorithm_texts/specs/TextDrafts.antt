@@ -1,6 +1,6 @@
 -- Reading the lines of a text from the left: what each of them makes of a draft, or None where it is refused.
 use Rattle.std.specs.Prelude.{◌≡◌, string_bytes, ℕ, ◌+◌, ◌==◌, nat_eq, nat_lt, nat_le, Bool, true, false, not, ◌&&◌, ◌||◌, List, [], ◌∷◌, ◌++◌, length, map, take, drop, slice_get, Option, Some, None, is_some, if◌then◌else◌, codes}
-use Rattle.std.specs.List.{prefix_len, list_any}
+use Rattle.std.specs.List.{prefix_len, list_any, slice_split}
 use Rattle.algorithms.specs.declared.algorithm.Algorithm.{Algorithm}
 use Rattle.algorithms.specs.declared.algorithm.AlgorithmCall.{AlgorithmCall}
 use Rattle.algorithms.specs.declared.algorithm.AlgorithmCall.TheVariants.{Lock, Unlock, Recover, Withdraw}
@@ -14,10 +14,10 @@ use Rattle.algorithm_texts.specs.declared.lines.Opened.{Opened}
 use Rattle.algorithm_texts.specs.declared.tokens.Sign.TheVariants.{Comma, OpenIndex, Comparison}
 use Rattle.algorithm_texts.specs.declared.tokens.Token.{Token}
 use Rattle.algorithm_texts.specs.declared.tokens.Token.TheVariants.{Number as NumberToken, Word, Sign}
-use Rattle.algorithm_texts.specs.Parts.{Term, Number, Private, Me, Procs, Limit, Joined, ◌>>=◌}
+use Rattle.algorithm_texts.specs.Parts.{Term, Number, Private, Element, Me, Procs, Limit, Joined, ◌>>=◌}
 use Rattle.algorithm_texts.specs.Grammar.{Scope}
 use Rattle.algorithm_texts.specs.Fronts.{is_me, is_the_word, is_the_sign, value_if, past_word, past_sign, is_over, named_by, value_tokens, value_rest}
-use Rattle.algorithm_texts.specs.Drafts.{Drafted, DraftExtent, OneWord, OfProcesses, OfSize, OfRows}
+use Rattle.algorithm_texts.specs.Drafts.{Drafted, DraftExtent, OneWord, OfProcesses, OfSize, OfRows, with_row}
 use Rattle.algorithm_texts.specs.LineDrafts.{read_value, read_brackets, scope_in, new_name, with_names, read_statement}
 use Rattle.algorithm_texts.specs.NeverClaims.{read_never}
 pub use Rattle.algorithm_texts.specs.NewNames.{undeclared_name}
@@ -72,6 +72,7 @@ read_call d tokens last = do
 abbrev pub is_bound : Term → Bool
 is_bound (Number n) = true
 is_bound (Private k) = false
+is_bound (Element row i) = false
 is_bound Me = false
 is_bound Procs = true
 is_bound Limit = true
@@ -81,6 +82,7 @@ is_bound (Joined o a b) = is_bound a && is_bound b
 abbrev pub atoms : Term → ℕ
 atoms (Number n) = 1
 atoms (Private k) = 1
+atoms (Element row i) = atoms i
 atoms Me = 1
 atoms Procs = 1
 atoms Limit = 1
@@ -116,6 +118,7 @@ read_size scope names tokens = do
 abbrev pub is_procs : Term → Bool
 is_procs (Number n) = false
 is_procs (Private k) = false
+is_procs (Element row i) = false
 is_procs Me = false
 is_procs Procs = true
 is_procs Limit = false
@@ -190,6 +193,7 @@ is_owner_value each (Private k) = false
 is_owner_value each Me = each
 is_owner_value each Procs = true
 is_owner_value each Limit = true
+is_owner_value each (Element row i) = false
 is_owner_value each (Joined o a b) = is_owner_value each a && is_owner_value each b
 
 -- such a value after this word, and the private names after it
@@ -258,10 +262,19 @@ read_shared d tokens = do
 abbrev pub with_lasting : List ℕ → Drafted → Drafted
 with_lasting name d = record d { names = d.names ++ name ∷ []; lasting = length d.names + 1 }
 
+abbrev pub read_single : Drafted → List ℕ → List Token → Option Drafted
+read_single d name tokens = value_if (nat_lt (length d.names) 64) (value_if (is_over tokens) (Some (with_lasting name d)))
+
+-- `[SIZE]` after the name of a row
+abbrev pub read_row : Drafted → List ℕ → List Token → Option Drafted
+read_row d name tokens = do
+  size ← read_size (scope_in d) d.names tokens
+  value_if (nat_le (length d.names + 16) 64) (value_if (is_over size.1) (Some (with_row name size.0 (with_names size.2 d))))
+
 abbrev pub read_private : Drafted → List Token → Option Drafted
 read_private d tokens = do
   name ← undeclared_name (scope_in d) d.names (slice_get tokens 0)
-  value_if (nat_lt (length d.names) 32) (value_if (is_over (drop 1 tokens)) (Some (with_lasting name d)))
+  if is_the_sign (slice_get tokens 1) OpenIndex then read_row d name (drop 1 tokens) else read_single d name (drop 1 tokens)
 
 abbrev pub read_declaration : Drafted → List Token → Option Drafted
 read_declaration d tokens =
@@ -317,59 +330,75 @@ abbrev pub promise_at_front : List Token → List ℕ → Bool × List Token
 promise_at_front tokens word =
     if is_the_sign (slice_get tokens 0) Comma && is_the_word (slice_get tokens 1) word then (true, drop 2 tokens) else (false, tokens)
 
--- `within NUMBER`, and the tokens after it
-abbrev pub read_within : List Token → Option (ℕ × List Token)
+-- `within NUMBER`, up to the end
+abbrev pub read_within : List Token → Option ℕ
 read_within tokens = do
   rest ← past_word tokens (codes "within")
   most ← number_in (slice_get rest 0)
-  Some (most, drop 1 rest)
+  value_if (is_over (drop 1 rest)) (Some most)
 
-abbrev pub with_bound : ℕ × List Token → Option (Option ℕ × List Token)
-with_bound w = Some (Some w.0, w.1)
+-- a bound on the own steps of a section that has none so far
+abbrev pub new_bound : Option ℕ → List Token → Option ℕ
+new_bound before tokens = if is_some before then None else read_within tokens
 
--- the bound on the own steps of a section, where it comes next, and the tokens after it
-abbrev pub bound_at_front : List Token → List ℕ → Option (Option ℕ × List Token)
-bound_at_front tokens word =
-    if (promise_at_front tokens word).0 then read_within (promise_at_front tokens word).1 >>= with_bound
-    else Some (None, (promise_at_front tokens word).1)
+abbrev pub with_exit : Promises → List Token → Option Promises
+with_exit p tokens = new_bound p.exit tokens >>= (λ most. Some (record p { exit = Some most }))
 
-abbrev pub freedom_next : List Token → Option (Bool × List Token)
-freedom_next rest = Some (true, rest)
+abbrev pub with_recovery : Promises → List Token → Option Promises
+with_recovery p tokens = new_bound p.recovery tokens >>= (λ most. Some (record p { recovery = Some most }))
 
--- this word and `freedom`, where they come next
-abbrev pub freedom_at_front : List Token → List ℕ → Option (Bool × List Token)
-freedom_at_front tokens word =
-    if (promise_at_front tokens word).0 then past_word (promise_at_front tokens word).1 (codes "freedom") >>= freedom_next
-    else Some (false, (promise_at_front tokens word).1)
+-- without order there is no doorway
+abbrev pub with_doorway : Promises → List Token → Option Promises
+with_doorway p tokens = value_if p.order (new_bound p.doorway tokens >>= (λ most. Some (record p { doorway = Some most })))
 
-abbrev pub starvation_at_front : List Token → Option (Option ProgressPromise × List Token)
-starvation_at_front tokens = do
-  freedom ← freedom_at_front tokens (codes "starvation")
-  if freedom.0 then Some (Some StarvationFreedom, freedom.1) else Some (None, freedom.1)
+-- `freedom`, up to the end, where no freedom is promised so far
+abbrev pub with_freedom : Promises → ProgressPromise → List Token → Option Promises
+with_freedom p progress tokens = do
+  rest ← past_word tokens (codes "freedom")
+  value_if (is_over rest && not (is_some p.progress)) (Some (record p { progress = Some progress }))
 
--- `deadlock freedom` or `starvation freedom`, where it comes next
-abbrev pub progress_at_front : List Token → Option (Option ProgressPromise × List Token)
-progress_at_front tokens = do
-  freedom ← freedom_at_front tokens (codes "deadlock")
-  if freedom.0 then Some (Some DeadlockFreedom, freedom.1) else starvation_at_front freedom.1
+abbrev pub with_bounds : Promises → List Token → Option Promises
+with_bounds p tokens = value_if (is_over tokens && not p.bounds) (Some (record p { bounds = true }))
 
--- the bounds on the own steps of the exit, of the recovery and of the doorway, and what is promised of calls under way, up to the end
--- of the line. Without order there is no doorway
-abbrev pub read_bounds : Bool → Bool → List Token → Option Promises
-read_bounds reentry order tokens = do
-  exit ← bound_at_front tokens (codes "exit")
-  recovery ← bound_at_front exit.1 (codes "recovery")
-  doorway ← bound_at_front recovery.1 (codes "doorway")
-  progress ← progress_at_front doorway.1
-  value_if (is_over progress.1 && not (is_some doorway.0 && not order))
-      (Some (record { reentry = reentry; order = order; exit = exit.0; recovery = recovery.0; doorway = doorway.0; progress = progress.0 }))
+-- one promise more, which is not said so far: `exit`, `recovery` or `doorway` with its bound, `deadlock freedom`, `starvation freedom`,
+-- or `bounds`
+abbrev pub with_promise : Promises → List Token → Option Promises
+with_promise p tokens =
+    if is_the_word (slice_get tokens 0) (codes "exit") then with_exit p (drop 1 tokens)
+    else if is_the_word (slice_get tokens 0) (codes "recovery") then with_recovery p (drop 1 tokens)
+    else if is_the_word (slice_get tokens 0) (codes "doorway") then with_doorway p (drop 1 tokens)
+    else if is_the_word (slice_get tokens 0) (codes "deadlock") then with_freedom p DeadlockFreedom (drop 1 tokens)
+    else if is_the_word (slice_get tokens 0) (codes "starvation") then with_freedom p StarvationFreedom (drop 1 tokens)
+    else if is_the_word (slice_get tokens 0) (codes "bounds") then with_bounds p (drop 1 tokens)
+    else None
+
+-- each part is one promise more
+abbrev pub with_promises : Promises → List (List Token) → Option Promises
+with_promises p [] = Some p
+with_promises p (part ∷ parts) = with_promise p part >>= (λ q. with_promises q parts)
+
+abbrev pub is_comma : Token → Bool
+is_comma token = is_the_sign (Some token) Comma
+
+-- a comma, and the promises between it, further commas and the end of the line
+abbrev pub read_listed : Promises → List Token → Option Promises
+read_listed p tokens = past_sign tokens Comma >>= (λ rest. with_promises p (slice_split is_comma rest))
+
+-- the further promises, where there are some, up to the end of the line
+abbrev pub read_more : Promises → List Token → Option Promises
+read_more p tokens = if is_over tokens then Some p else read_listed p tokens
+
+-- re-entry, order or both, and nothing else
+abbrev pub first_promises : Bool → Bool → Promises
+first_promises reentry order =
+    record { reentry = reentry; order = order; exit = None; recovery = None; doorway = None; progress = None; bounds = false }
 
 -- what follows `exclusion`
 abbrev pub read_further_promises : List Token → Option Promises
 read_further_promises tokens =
-    read_bounds (promise_at_front tokens (codes "reentry")).0
-    (promise_at_front (promise_at_front tokens (codes "reentry")).1 (codes "order")).0
-    (promise_at_front (promise_at_front tokens (codes "reentry")).1 (codes "order")).1
+    let reentry = promise_at_front tokens (codes "reentry") in
+    let order = promise_at_front reentry.1 (codes "order") in
+    read_more (first_promises reentry.0 order.0) order.1
 
 abbrev pub read_promises : List Token → Option Promises
 read_promises tokens = do
@@ -383,6 +412,7 @@ pub record IsEmpty (a : Algorithm) (name : List ℕ) (least most : ℕ) : Type 0
   pub least_is : a.least ≡ least
   pub most_is : a.most ≡ most
   pub no_constants : a.constants.items ≡ []
+  pub no_rows : a.rows.items ≡ []
   pub no_declarations : a.declarations.items ≡ []
   pub no_names : a.names.items ≡ []
   pub none_last : a.lasting ≡ 0
@@ -408,6 +438,7 @@ empty_draft head promises number = record {
     most = head.2;
     promises = promises;
     constants = [];
+    rows = [];
     bounds = [];
     homes = [];
     entries = record { lock = 0; unlock = 0; recover = None; withdraw = None };

@@ -7,14 +7,15 @@ use Rattle.algorithms.specs.declared.line.AlgorithmDeed.{AlgorithmDeed}
 use Rattle.algorithms.specs.declared.line.AlgorithmDeed.TheVariants.{Begin, Ready, Enter, Reenter, Leave, Quit}
 use Rattle.algorithm_texts.specs.declared.usage.Usage.{Usage}
 use Rattle.algorithm_texts.specs.declared.usage.Usage.TheVariants.{Reads, Sets, Begins, Ends}
-use Rattle.algorithm_texts.specs.Parts.{Term, Private, Joined, Formula, Compare, ComparePairs, Both, Either, Negated}
-use Rattle.algorithm_texts.specs.Drafts.{DraftAction, Loading, Storing, Awaiting, Swapping, LineForm, Accessing, Assigning, Noting, Branching, Beginning, Repeating, PlacedLine, form_with_place}
+use Rattle.algorithm_texts.specs.Parts.{Term, Private, Element, Joined, Formula, Compare, ComparePairs, Both, Either, Negated}
+use Rattle.algorithm_texts.specs.Drafts.{DraftAction, Loading, Storing, Awaiting, Swapping, LineForm, Accessing, DraftElements, AllElements, ElementAt, Assigning, SettingRow, Noting, Branching, Beginning, Repeating, PlacedLine, form_with_place}
 use Rattle.algorithm_texts.specs.TextDrafts.{call_number}
 
 -- ---- names
 
 abbrev pub term_reads : ℕ → Term → Bool
 term_reads name (Private k) = nat_eq k name
+term_reads name (Element row i) = term_reads name i
 term_reads name (Joined o a b) = term_reads name a || term_reads name b
 term_reads name other = false
 
@@ -41,10 +42,16 @@ act_reads name (Awaiting k until) = not (nat_eq k name) && formula_reads name un
 act_reads name (Swapping k value guard until) =
     not (nat_eq k name) && (term_reads name value || formula_reads_if name guard || formula_reads_if name until)
 
+-- a line that sets values of a row reads these names of their indexes
+abbrev pub elements_read : ℕ → DraftElements → Bool
+elements_read name (AllElements size) = term_reads name size
+elements_read name (ElementAt index) = term_reads name index
+
 -- a line reads this name before it sets it
 abbrev pub reads : ℕ → LineForm → Bool
 reads name (Accessing a) = index_reads name a.word.index || act_reads name a.act
 reads name (Assigning k value) = term_reads name value
+reads name (SettingRow row elements value) = elements_read name elements || term_reads name value
 reads name (Branching condition otherwise) = formula_reads name condition
 reads name (Repeating k members body) = nat_eq k name
 reads name other = false

@@ -15,6 +15,7 @@ use crate::names::{declaration_of, is_declared, is_name};
 use crate::parts::{
     after, after_sign, after_withdraw, after_word, deed_said, letters, split_value,
 };
+use crate::rows::is_row_name;
 use crate::tokens::{LineWord, Sign, Token, is_sign, is_word};
 use algorithms::algorithm::{Algorithm, Extent};
 use algorithms::condition::Condition;
@@ -53,11 +54,13 @@ fn loaded_word_fault(token: Option<&Token>) -> ReadFault
 
 /// Whether a shared word comes next.
 pub fn begins_word(draft: &Draft, first: Option<&Token>, second: Option<&Token>) -> bool
-    ensures { result ≡ begins_word (draft_view draft.now).declared (option_copied first.entry) (option_copied second.entry) }
+    ensures { result ≡ begins_word (scope_in (draft_view draft.now)) (option_copied first.entry) (option_copied second.entry) }
 {
     match first {
         Some(Token::Word(word)) => {
-            is_declared(&draft.algorithm, word.as_bytes()) || is_sign(second, Sign::OpenIndex)
+            is_declared(&draft.algorithm, word.as_bytes())
+                || (is_sign(second, Sign::OpenIndex)
+                    && !is_row_name(&draft.algorithm, word.as_bytes()))
         }
         Some(Token::Sign(_) | Token::Number(_)) | None => false,
     }

@@ -8,9 +8,9 @@ ghost use Rattle.algorithm_texts.specs.Parts.{term_of};
 ghost use Rattle.algorithm_texts.specs.Operands.{RefusesAs};
 ghost use Rattle.algorithm_texts.specs.Drafts.{draft_view};
 ghost use Rattle.algorithm_texts.specs.LineDrafts.{Drafts, scope_in, with_names};
-ghost use Rattle.algorithm_texts.specs.LineFaults.{head_fault, constant_value_fault, constant_fault, private_fault, declaration_fault, call_fault, line_fault};
+ghost use Rattle.algorithm_texts.specs.LineFaults.{head_fault, constant_value_fault, constant_fault, single_fault, private_fault, declaration_fault, call_fault, line_fault};
 ghost use Rattle.algorithm_texts.specs.Tokens.{value_of_name};
-ghost use Rattle.algorithm_texts.specs.TextDrafts.{IsEmpty, call_words, has_call, ended_calls, end_call, with_call, read_call, read_constant_value, with_constant, read_constant, read_private, read_declaration, read_line, read_numbers, read_head_words, read_head};
+ghost use Rattle.algorithm_texts.specs.TextDrafts.{IsEmpty, call_words, has_call, ended_calls, end_call, with_call, read_call, read_constant_value, with_constant, read_constant, read_single, read_private, read_declaration, read_line, read_numbers, read_head_words, read_head};
 
 use crate::constants::{constant_form_fault, is_constant_value};
 use crate::lines::{CallRead, Draft};
@@ -46,11 +46,13 @@ fn empty_algorithm(
             recovery: None,
             doorway: None,
             progress: None,
+            bounds: false,
         },
         constants: Vec::new(alloc),
         declarations: Vec::new(alloc),
         names: Vec::new(alloc),
         lasting: 0,
+        rows: Vec::new(alloc),
         answers: Vec::new(alloc),
         lines: Vec::new(alloc),
         entries: Entries {
@@ -217,14 +219,27 @@ impl Draft {
         self.add_constant(alloc, name.as_bytes(), value)
     }
 
-    /// Reads `private NAME`.
+    /// Reads what follows `private NAME` of a single name: nothing.
+    fn take_single(&mut self, alloc: Global, name: &[u8], tokens: &[Token]) -> Result<(), ReadFault>
+        requires { IsAscii name.now }
+        ensures { Drafts (draft_view self.new) result (read_single (draft_view self.old) name.now tokens.now)
+            (single_fault (draft_view self.old)) }
+    {
+        declare_private(alloc, &mut self.algorithm, name)?;
+        check_end(tokens)
+    }
+
+    /// Reads `private NAME` or `private NAME[SIZE]`.
     fn take_private(&mut self, alloc: Global, tokens: &[Token]) -> Result<(), ReadFault>
         ensures { Drafts (draft_view self.new) result (read_private (draft_view self.old) tokens.now)
             (private_fault (draft_view self.old) tokens.now) }
     {
         let name = undeclared_name(&self.algorithm, tokens.first())?;
-        declare_private(alloc, &mut self.algorithm, name.as_bytes())?;
-        check_end(after(tokens, 1))
+        if is_sign(tokens.get(1), Sign::OpenIndex) {
+            self.take_row(alloc, name.as_bytes(), after(tokens, 1))
+        } else {
+            self.take_single(alloc, name.as_bytes(), after(tokens, 1))
+        }
     }
 
     /// Reads a declaration, which begins with `shared`, `private`, `constant` or `never`.

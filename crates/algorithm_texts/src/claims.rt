@@ -180,9 +180,9 @@ impl Draft {
     /// Adds the name of one fact more. `TooBig` where there are as many names as can be.
     fn add_fact_name(&mut self, alloc: Global) -> Result<LineWord, ReadFault>
         ensures name { MatchResult result
-            (λ word. (length (draft_view self.old).names < 32) × (word ≡ fact_letters (length (draft_view self.old).names))
+            (λ word. (length (draft_view self.old).names < 64) × (word ≡ fact_letters (length (draft_view self.old).names))
             × ((draft_view self.new).names ≡ (draft_view self.old).names ++ word ∷ []))
-            (λ fault. (fault ≡ NoMemory) ⊎ ((32 ≤ length (draft_view self.old).names) × (fault ≡ ReadFault.TooBig))) }
+            (λ fault. (fault ≡ NoMemory) ⊎ ((64 ≤ length (draft_view self.old).names) × (fault ≡ ReadFault.TooBig))) }
         ensures kept { draft_view self.new ≡ with_names (draft_view self.new).names (draft_view self.old) }
     {
         let name = fact_letters(self.algorithm.names.len())?;
@@ -445,10 +445,12 @@ impl Draft {
             (never_fault (draft_view self.old) tokens.now) }
     {
         let names = mem::replace(&mut self.algorithm.names, Vec::new(alloc));
+        let rows = mem::replace(&mut self.algorithm.rows, Vec::new(alloc));
         let rest = self.claim_processes(alloc, tokens)?;
         let processes = self.algorithm.names.len();
         let (facts, condition) = self.claim(alloc, rest)?;
         self.algorithm.names = names;
+        self.algorithm.rows = rows;
         let number = self.number;
         self.algorithm.claims.push(NeverClaim {
             number,

@@ -42,6 +42,10 @@ pub fn copy_value(alloc: Global, value: &Expression) -> Result<Expression, ReadF
     match value {
         Expression::Number(number) => Ok(Expression::Number(*number)),
         Expression::Private(name) => Ok(Expression::Private(*name)),
+        Expression::Element(row, index) => {
+            let index = Box::new(alloc, copy_value(alloc, index)?)?;
+            Ok(Expression::Element(*row, index))
+        }
         Expression::Me => Ok(Expression::Me),
         Expression::Procs => Ok(Expression::Procs),
         Expression::Limit => Ok(Expression::Limit),
@@ -78,7 +82,7 @@ pub fn is_bound(value: &Expression) -> bool
 {
     match value {
         Expression::Number(_) | Expression::Procs | Expression::Limit => true,
-        Expression::Me | Expression::Private(_) => false,
+        Expression::Me | Expression::Private(_) | Expression::Element(..) => false,
         Expression::Joined(_, left, right) => is_bound(left) && is_bound(right),
     }
 }
@@ -93,6 +97,7 @@ fn atoms(value: &Expression) -> u64
         | Expression::Me
         | Expression::Procs
         | Expression::Limit => 1,
+        Expression::Element(_, index) => atoms(index),
         Expression::Joined(_, left, right) => atoms(left).saturating_add(atoms(right)),
     }
 }

@@ -1,7 +1,7 @@
 //! How many words a declaration has, as texts say it.
 
 ghost use Rattle.std.specs.Prelude.{◌≡◌, slice_get, Some, MatchResult, IfOk, IfErr};
-ghost use Rattle.algorithms.specs.declared.expression.Operator.TheVariants.{Product as ProductOf};
+ghost use Rattle.algorithms.specs.declared.expression.Operator.TheVariants.{Product as ProductOf, Within as WithinOf};
 ghost use Rattle.algorithms.specs.declared.fault.ReadFault.TheVariants.{OutOfMemory as NoMemory};
 ghost use Rattle.algorithm_texts.specs.Parts.{term_of, Joined as JoinedTerm};
 ghost use Rattle.algorithm_texts.specs.Operands.{RefusesAs};
@@ -47,6 +47,18 @@ fn join_copy(
     join_values(alloc, operator, left, right)
 }
 
+/// An index of a row of this size.
+pub fn index_within(
+    alloc: Global,
+    index: Expression,
+    size: Expression,
+) -> Result<Expression, ReadFault>
+    ensures ok { IfOk result (λ value. term_of value ≡ JoinedTerm WithinOf (term_of index) (term_of size)) }
+    ensures err { IfErr result (λ fault. fault ≡ NoMemory) }
+{
+    join_values(alloc, Operator::Within, index, size)
+}
+
 /// The place of a word in a table with this number of words in a row.
 pub fn table_place(
     alloc: Global,
@@ -87,6 +99,7 @@ fn is_procs(size: &Expression) -> bool
         Expression::Procs => true,
         Expression::Number(_)
         | Expression::Private(_)
+        | Expression::Element(..)
         | Expression::Me
         | Expression::Limit
         | Expression::Joined(..) => false,
@@ -148,7 +161,7 @@ impl Draft {
     }
 
     /// A size in brackets, and the tokens after it.
-    fn size<'t>(
+    pub fn size<'t>(
         &mut self,
         alloc: Global,
         tokens: &'t [Token],

@@ -88,7 +88,7 @@ fn is_owner_value(each: bool, value: &Expression) -> bool
     match value {
         Expression::Number(_) | Expression::Procs | Expression::Limit => true,
         Expression::Me => each,
-        Expression::Private(_) => false,
+        Expression::Private(_) | Expression::Element(..) => false,
         Expression::Joined(_, left, right) => {
             is_owner_value(each, left) && is_owner_value(each, right)
         }

@@ -70,6 +70,7 @@ fn local_ways(line: &LocalLine, least: u64, next: usize) -> Ways
 {
     match line {
         LocalLine::Assign { .. } => one_way(next),
+        LocalLine::AssignRow { .. } => one_way(next),
         LocalLine::Note(_) => one_way(next),
         LocalLine::Goto(target) => one_way(*target),
         LocalLine::Branch { otherwise, .. } => two_ways(next, *otherwise),
@@ -102,6 +103,7 @@ fn forward_local_ways(line: &LocalLine, least: u64, next: usize) -> Ways
     match line {
         LocalLine::Next { .. } => one_way(next),
         LocalLine::Assign { .. }
+        | LocalLine::AssignRow { .. }
         | LocalLine::Note(_)
         | LocalLine::Goto(_)
         | LocalLine::Branch { .. }
@@ -185,6 +187,7 @@ fn local_way_past(line: &LocalLine, name: usize, least: u64, next: usize) -> Opt
         }
         LocalLine::Next { name: own, .. } => { if *own == name { Some(next) } else { None } }
         LocalLine::Assign { .. }
+        | LocalLine::AssignRow { .. }
         | LocalLine::Note(_)
         | LocalLine::Goto(_)
         | LocalLine::Branch { .. } => None,

@@ -27,6 +27,7 @@ mod operands;
 mod parts;
 mod promises;
 mod rounds;
+mod rows;
 mod runs;
 mod shared_words;
 mod simple;

@@ -3,21 +3,25 @@
 ghost use Rattle.std.specs.Prelude.{◌≡◌, ◌↔◌, IsTrue, map, string_bytes};
 ghost use Rattle.std.specs.Option.{option_map};
 ghost use Rattle.algorithm_texts.specs.Parts.{term_of};
-ghost use Rattle.algorithm_texts.specs.Drafts.{Beginning, Repeating, access_of, act_of, answers_of, extent_of, form_of, line_of, local_form, members_form, start_term, word_of};
-ghost use Rattle.algorithm_texts.specs.Operands.{names_of};
+ghost use Rattle.algorithm_texts.specs.Drafts.{access_of, act_of, answers_of, extent_of, form_of, line_of, start_term, word_of};
+ghost use Rattle.algorithm_texts.specs.Operands.{names_of, row_of};
 ghost use Rattle.algorithm_texts.specs.UnreachedLines.{starts_in};
 ghost use Rattle.algorithm_texts.specs.Likeness.{AreOneAlgorithm, AreDeclaredAlike, AreHeadedAlike, AreOneDeclaration, AreSpelledAlike, AreTitledAlike, named_value, named_values};
 
 mod claims;
+mod local_lines;
 mod values;
 
 use crate::likeness::claims::is_claimed_alike;
+use crate::likeness::local_lines::same_local;
 use crate::likeness::values::{same_condition, same_condition_if, same_value, same_value_if};
 use crate::tokens::spells;
-use algorithms::algorithm::{Algorithm, Declaration, Entries, Extent, NamedConstant, Promises};
+use algorithms::algorithm::{
+    Algorithm, Declaration, Entries, Extent, NamedConstant, NamedRow, Promises,
+};
 use algorithms::expression::Expression;
 use algorithms::first_values::{FirstValues, InitializedAlgorithm};
-use algorithms::line::{AccessLine, Action, AlgorithmLine, LineKind, LocalLine, Members, WordOf};
+use algorithms::line::{AccessLine, Action, AlgorithmLine, LineKind, WordOf};
 
 /// Whether two shared words are the same.
 fn same_word(left: &WordOf, right: &WordOf) -> bool
@@ -67,108 +71,6 @@ fn same_access(left: &AccessLine, right: &AccessLine) -> bool
 {
     same_word(&left.word, &right.word)
         && (same_action(&left.action, &right.action) && left.may_withdraw == right.may_withdraw)
-}
-
-/// Whether two loops go over the same processes or numbers.
-fn same_members(left: &Members, right: &Members) -> bool
-    ensures { IsTrue result ↔ (members_form left.now ≡ members_form right.now) }
-{
-    match left {
-        Members::All => matches!(right, Members::All),
-        Members::Others => matches!(right, Members::Others),
-        Members::Lower => matches!(right, Members::Lower),
-        Members::Higher => matches!(right, Members::Higher),
-        Members::Up(first, last) => {
-            if let Members::Up(one, two) = right {
-                same_value(first, one) && same_value(last, two)
-            } else {
-                false
-            }
-        }
-        Members::Down(first, last) => {
-            if let Members::Down(one, two) = right {
-                same_value(first, one) && same_value(last, two)
-            } else {
-                false
-            }
-        }
-    }
-}
-
-/// Whether a line is this head of a loop.
-fn is_first(name: usize, members: &Members, after: usize, line: &LocalLine) -> bool
-    ensures { IsTrue result ↔ (Beginning name (members_form members.now) after ≡ local_form line.now) }
-{
-    if let LocalLine::First {
-        name: own,
-        members: other,
-        after: place,
-    } = line
-    {
-        name == *own && (same_members(members, other) && after == *place)
-    } else {
-        false
-    }
-}
-
-/// Whether a line is this end of a loop.
-fn is_next(name: usize, members: &Members, body: usize, line: &LocalLine) -> bool
-    ensures { IsTrue result ↔ (Repeating name (members_form members.now) body ≡ local_form line.now) }
-{
-    if let LocalLine::Next {
-        name: own,
-        members: other,
-        body: place,
-    } = line
-    {
-        name == *own && (same_members(members, other) && body == *place)
-    } else {
-        false
-    }
-}
-
-/// Whether two local lines are the same.
-fn same_local(left: &LocalLine, right: &LocalLine) -> bool
-    ensures { IsTrue result ↔ (local_form left.now ≡ local_form right.now) }
-{
-    match (left, right) {
-        (
-            LocalLine::Assign { name, value },
-            LocalLine::Assign {
-                name: own,
-                value: other,
-            },
-        ) => { *name == *own && same_value(value, other) }
-        (LocalLine::Note(deed), LocalLine::Note(other)) => *deed == *other,
-        (LocalLine::Goto(place), LocalLine::Goto(other)) => *place == *other,
-        (
-            LocalLine::Branch {
-                condition,
-                otherwise,
-            },
-            LocalLine::Branch {
-                condition: other,
-                otherwise: place,
-            },
-        ) => same_condition(condition, other) && *otherwise == *place,
-        (
-            LocalLine::First {
-                name,
-                members,
-                after,
-            },
-            _,
-        ) => is_first(*name, members, *after, right),
-        (
-            LocalLine::Next {
-                name,
-                members,
-                body,
-            },
-            _,
-        ) => is_next(*name, members, *body, right),
-        _ => false,
-    }
 }
 
 /// Whether two lines are of one form.
@@ -329,6 +231,33 @@ fn same_constants(left: &[NamedConstant], right: &[NamedConstant]) -> bool
     place == right.len()
 }
 
+/// Whether two rows of private names have one name, the same first name and the same size.
+fn same_row(left: &NamedRow, right: &NamedRow) -> bool
+    ensures { IsTrue result ↔ (row_of left.now ≡ row_of right.now) }
+{
+    left.name.as_bytes() == right.name.as_bytes()
+        && (left.first == right.first && same_value(&left.size, &right.size))
+}
+
+/// Whether these rows of private names are the same.
+fn same_rows(left: &[NamedRow], right: &[NamedRow]) -> bool
+    ensures { IsTrue result ↔ (map row_of left.now ≡ map row_of right.now) }
+{
+    let mut place = 0;
+    for row in left {
+        match right.get(place) {
+            Some(other) => {
+                if !same_row(row, other) {
+                    return false;
+                }
+            }
+            None => return false,
+        }
+        place += 1;
+    }
+    place == right.len()
+}
+
 /// Whether these first values are the same.
 fn same_starts(left: &[Option<Expression>], right: &[Option<Expression>]) -> bool
     ensures { IsTrue result ↔ (map start_term left.now ≡ map start_term right.now) }
@@ -372,13 +301,20 @@ fn same_entries(left: Entries, right: Entries) -> bool
         && (left.recover == right.recover && left.withdraw == right.withdraw)
 }
 
+/// Whether two algorithms promise the same bounds on own steps.
+fn same_step_bounds(left: Promises, right: Promises) -> bool
+    ensures { IsTrue result ↔ ((left.exit ≡ right.exit) × (left.recovery ≡ right.recovery) × (left.doorway ≡ right.doorway)) }
+{
+    left.exit == right.exit && (left.recovery == right.recovery && left.doorway == right.doorway)
+}
+
 /// Whether two algorithms promise the same.
 fn same_promises(left: Promises, right: Promises) -> bool
     ensures { IsTrue result ↔ (left ≡ right) }
 {
     (left.reentry == right.reentry && left.order == right.order)
-        && (left.exit == right.exit && left.recovery == right.recovery)
-        && (left.doorway == right.doorway && left.progress == right.progress)
+        && same_step_bounds(left, right)
+        && (left.progress == right.progress && left.bounds == right.bounds)
 }
 
 /// Whether two algorithms have the same name, numbers of processes and promises.
@@ -389,12 +325,13 @@ fn same_title(left: &Algorithm, right: &Algorithm) -> bool
         && (left.least == right.least && left.most == right.most)
 }
 
-/// Whether two algorithms have the same title, constants, declarations and entries.
+/// Whether two algorithms have the same title, constants, rows of private names, declarations and entries.
 fn same_head(left: &Algorithm, right: &Algorithm) -> bool
     ensures { IsTrue result ↔ AreHeadedAlike left.now right.now }
 {
     same_title(left, right)
-        && same_constants(left.constants.as_slice(), right.constants.as_slice())
+        && (same_constants(left.constants.as_slice(), right.constants.as_slice())
+            && same_rows(left.rows.as_slice(), right.rows.as_slice()))
         && same_declarations(left.declarations.as_slice(), right.declarations.as_slice())
         && same_entries(left.entries, right.entries)
 }

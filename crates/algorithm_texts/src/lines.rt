@@ -99,7 +99,10 @@ fn lead_local(line: &mut LocalLine, place: usize)
         LocalLine::Branch { otherwise, .. } => *otherwise = place,
         LocalLine::First { after, .. } => *after = place,
         LocalLine::Goto(target) => *target = place,
-        LocalLine::Assign { .. } | LocalLine::Note(_) | LocalLine::Next { .. } => {}
+        LocalLine::Assign { .. }
+        | LocalLine::AssignRow { .. }
+        | LocalLine::Note(_)
+        | LocalLine::Next { .. } => {}
     }
 }
 

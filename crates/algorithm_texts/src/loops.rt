@@ -26,6 +26,7 @@ fn literal_in(value: &Expression) -> Option<u64>
     match value {
         Expression::Number(number) => Some(*number),
         Expression::Private(_)
+        | Expression::Element(..)
         | Expression::Me
         | Expression::Procs
         | Expression::Limit
@@ -60,7 +61,7 @@ fn least_value(least: u64, value: &Expression) -> u64
     match value {
         Expression::Number(number) => *number,
         Expression::Procs => least,
-        Expression::Private(_) | Expression::Me | Expression::Limit => 0,
+        Expression::Private(_) | Expression::Element(..) | Expression::Me | Expression::Limit => 0,
         Expression::Joined(operator, left, right) => {
             least_joined(*operator, least_value(least, left), literal_in(right))
         }
@@ -145,7 +146,7 @@ fn is_fixed(value: &Expression) -> bool
 {
     match value {
         Expression::Number(_) | Expression::Me | Expression::Procs | Expression::Limit => true,
-        Expression::Private(_) => false,
+        Expression::Private(_) | Expression::Element(..) => false,
         Expression::Joined(_, left, right) => is_fixed(left) && is_fixed(right),
     }
 }

@@ -28,6 +28,7 @@ fn local_stays(least: u64, marks: &[bool], next: usize, line: &LocalLine) -> boo
 {
     match line {
         LocalLine::Assign { .. } => is_in(marks, next),
+        LocalLine::AssignRow { .. } => is_in(marks, next),
         LocalLine::Note(_) => is_in(marks, next),
         LocalLine::Goto(place) => is_in(marks, *place),
         LocalLine::Branch { otherwise, .. } => is_in(marks, next) && is_in(marks, *otherwise),
@@ -117,6 +118,7 @@ fn is_local_way(line: &LocalLine) -> bool
     match line {
         LocalLine::Goto(_) | LocalLine::Next { .. } => true,
         LocalLine::Assign { .. } => false,
+        LocalLine::AssignRow { .. } => false,
         LocalLine::Note(_) => false,
         LocalLine::Branch { .. } => false,
         LocalLine::First { .. } => false,

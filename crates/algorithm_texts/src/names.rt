@@ -3,14 +3,15 @@
 ghost use Rattle.std.specs.Prelude.{◌≡◌, ◌≤◌, ◌<◌, ◌+◌, ◌⊎◌, ◌++◌, ◌∷◌, [], ◌||◌, IsAscii, OnOk, position, bytes_eq, if◌then◌else◌, Some, None, length, map, string_bytes, MatchResult};
 ghost use Rattle.std.specs.List.{list_any};
 ghost use Rattle.std.specs.Option.{option_copied};
-ghost use Rattle.algorithm_texts.specs.Grammar.{is_among, private_name_part, named_part, constant_named};
-ghost use Rattle.algorithm_texts.specs.Operands.{MakesName, MakesWord, names_of, declared_of, named_constants, scope_of, reserved};
+ghost use Rattle.algorithm_texts.specs.Grammar.{is_among, is_row_name, private_name_part, named_part, constant_named};
+ghost use Rattle.algorithm_texts.specs.Operands.{MakesName, MakesWord, names_of, rows_of, declared_of, named_constants, scope_of, reserved};
 ghost use Rattle.algorithms.specs.declared.fault.ReadFault.TheVariants.{OutOfMemory as NoMemory, TooBig as ManyNames};
 ghost use Rattle.algorithm_texts.specs.LineDrafts.{is_constant, has_declaration, is_name, new_name, name_set};
 ghost use Rattle.algorithm_texts.specs.LineFaults.{new_name_fault, name_set_fault, name_read_fault, undeclared_name_fault};
 ghost use Rattle.algorithm_texts.specs.NewNames.{undeclared_name};
 
 use crate::constants::{constant_named, is_constant_name};
+use crate::rows::is_row_name;
 use crate::tokens::{LineWord, Token, spells};
 use algorithms::algorithm::Algorithm;
 use algorithms::expression::{Expression, NAMES};
@@ -79,7 +80,7 @@ fn is_one_of(words: &[&[u8]], word: &[u8]) -> bool
 
 /// Whether it is a word of the format.
 #[tactic(auto, unfolding(crate::specs::Operands::reserved))]
-fn is_reserved(word: &[u8]) -> bool
+pub fn is_reserved(word: &[u8]) -> bool
     ensures { result ≡ is_among reserved word.now }
 {
     is_one_of(&RESERVED, word)
@@ -152,11 +153,12 @@ pub fn is_declared(algorithm: &Algorithm, word: &[u8]) -> bool
     declaration_of(algorithm, word).is_some()
 }
 
-/// Whether a constant or a shared word has this name.
+/// Whether a constant, a row of private names or a shared word has this name.
 fn has_declaration(algorithm: &Algorithm, word: &[u8]) -> bool
     ensures { result ≡ has_declaration (scope_of algorithm.now) word.now }
 {
-    is_declared(algorithm, word) || is_constant_name(algorithm, word)
+    is_declared(algorithm, word)
+        || (is_constant_name(algorithm, word) || is_row_name(algorithm, word))
 }
 
 /// Whether there is a private name like this.
@@ -169,7 +171,7 @@ fn is_private(algorithm: &Algorithm, word: &[u8]) -> bool
 /// Adds a private name, and answers its index. `TooBig` where there are as many as can be.
 fn add_name(alloc: Global, algorithm: &mut Algorithm, word: &[u8]) -> Result<usize, ReadFault>
     requires { IsAscii word.now }
-    ensures place { MakesName (names_of algorithm.new) result (private_name_part 32 (names_of algorithm.old) word.now None) ManyNames }
+    ensures place { MakesName (names_of algorithm.new) result (private_name_part 64 (names_of algorithm.old) word.now None) ManyNames }
     ensures kept { algorithm.new ≡ record algorithm.old { names = algorithm.new.names } }
 {
     let index = algorithm.names.len();
@@ -184,8 +186,8 @@ fn add_name(alloc: Global, algorithm: &mut Algorithm, word: &[u8]) -> Result<usi
 pub fn push_name(alloc: Global, algorithm: &mut Algorithm, word: &[u8]) -> Result<(), ReadFault>
     requires { IsAscii word.now }
     ensures name { MatchResult result
-        (λ _. (length (names_of algorithm.old) < 32) × (names_of algorithm.new ≡ names_of algorithm.old ++ word.now ∷ []))
-        (λ fault. (fault ≡ NoMemory) ⊎ ((32 ≤ length (names_of algorithm.old)) × (fault ≡ ManyNames))) }
+        (λ _. (length (names_of algorithm.old) < 64) × (names_of algorithm.new ≡ names_of algorithm.old ++ word.now ∷ []))
+        (λ fault. (fault ≡ NoMemory) ⊎ ((64 ≤ length (names_of algorithm.old)) × (fault ≡ ManyNames))) }
     ensures kept { algorithm.new ≡ record algorithm.old { names = algorithm.new.names } }
 {
     add_name(alloc, algorithm, word)?;
@@ -196,7 +198,7 @@ pub fn push_name(alloc: Global, algorithm: &mut Algorithm, word: &[u8]) -> Resul
 fn place_of(alloc: Global, algorithm: &mut Algorithm, word: &[u8]) -> Result<usize, ReadFault>
     requires { IsAscii word.now }
     ensures place { MakesName (names_of algorithm.new) result
-        (private_name_part 32 (names_of algorithm.old) word.now (position (λ name. bytes_eq name word.now) (names_of algorithm.old)))
+        (private_name_part 64 (names_of algorithm.old) word.now (position (λ name. bytes_eq name word.now) (names_of algorithm.old)))
         ManyNames }
     ensures kept { algorithm.new ≡ record algorithm.old { names = algorithm.new.names } }
 {
@@ -250,7 +252,8 @@ pub fn named_value(
 ) -> Result<Expression, ReadFault>
     requires { IsAscii word.now }
     ensures value { MakesWord (names_of algorithm.new) result
-        (if is_among reserved word.now || is_among (declared_of algorithm.old) word.now then None
+        (if is_among reserved word.now
+        || (is_among (declared_of algorithm.old) word.now || is_row_name (rows_of algorithm.old) word.now) then None
         else named_part (scope_of algorithm.old) (names_of algorithm.old) word.now
         (constant_named (named_constants algorithm.old) word.now))
         (name_read_fault (scope_of algorithm.old) word.now) }
@@ -261,6 +264,9 @@ pub fn named_value(
     }
     if is_declared(algorithm, word) {
         return Err(ReadFault::TwoAccesses);
+    }
+    if is_row_name(algorithm, word) {
+        return Err(ReadFault::BadForm);
     }
     constant_or_private(alloc, algorithm, word)
 }
@@ -273,8 +279,8 @@ pub fn declare_private(
 ) -> Result<(), ReadFault>
     requires { IsAscii word.now }
     ensures name { MatchResult result
-        (λ _. (length (names_of algorithm.old) < 32) × (names_of algorithm.new ≡ names_of algorithm.old ++ word.now ∷ []))
-        (λ fault. (fault ≡ NoMemory) ⊎ ((32 ≤ length (names_of algorithm.old)) × (fault ≡ ManyNames))) }
+        (λ _. (length (names_of algorithm.old) < 64) × (names_of algorithm.new ≡ names_of algorithm.old ++ word.now ∷ []))
+        (λ fault. (fault ≡ NoMemory) ⊎ ((64 ≤ length (names_of algorithm.old)) × (fault ≡ ManyNames))) }
     ensures kept { OnOk result (algorithm.new
         ≡ record algorithm.old { names = algorithm.new.names; lasting = length (names_of algorithm.old) + 1 }) }
 {

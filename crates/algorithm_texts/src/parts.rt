@@ -1,9 +1,9 @@
 //! The parts of a line: the tokens that have to come next, and what they name.
 
-ghost use Rattle.std.specs.Prelude.{◌≡◌, drop, length, slice_get, OnOk, IfOk, IfErr, Some, None, true, false, ◌||◌, codes, position};
+ghost use Rattle.std.specs.Prelude.{◌≡◌, ◌<◌, ◌≤◌, ◌-◌, ◌^◌, drop, length, slice_get, OnOk, IfOk, IfErr, Some, None, true, false, ◌||◌, codes, position};
 ghost use Rattle.std.specs.Option.{option_copied};
 ghost use Rattle.algorithms.specs.declared.fault.ReadFault.TheVariants.{BadForm as NoForm};
-ghost use Rattle.algorithm_texts.specs.Fronts.{past_word, past_sign, is_over, is_the_word, letters_of, named_by, deed_words, members_words, deed_said, members_said, past_withdraw, ends_value, value_tokens, value_rest, begins_no_simple};
+ghost use Rattle.algorithm_texts.specs.Fronts.{past_word, past_sign, is_over, is_the_word, letters_of, named_by, deed_words, members_words, deed_said, members_said, past_withdraw, ends_value, open_after, ends_here, value_size, value_tokens, value_rest, begins_no_simple};
 ghost use Rattle.algorithm_texts.specs.LineFaults.{undone_fault};
 ghost use Rattle.algorithm_texts.specs.TextDrafts.{number_in};
 ghost use Rattle.algorithm_texts.specs.Tokens.{value_of_name};
@@ -81,7 +81,27 @@ fn ends_value(token: &Token) -> bool
         || is_word(Some(token), b"if")
         || is_word(Some(token), b"done")
         || is_sign(Some(token), Sign::Assign)
-        || is_sign(Some(token), Sign::CloseIndex)
+}
+
+/// How many indexes are open after this token, where this number is before it.
+fn open_after(opened: usize, token: &Token) -> usize
+    requires { opened < 2 ^ 64 - 1 }
+    ensures { result ≡ open_after opened token.now }
+{
+    if is_sign(Some(token), Sign::OpenIndex) {
+        opened + 1
+    } else if is_sign(Some(token), Sign::CloseIndex) {
+        opened.saturating_sub(1)
+    } else {
+        opened
+    }
+}
+
+/// Whether a value or a condition ends before this token, where this number of indexes is open.
+fn ends_here(opened: usize, token: &Token) -> bool
+    ensures { result ≡ ends_here opened token.now }
+{
+    ends_value(token) || (opened == 0 && is_sign(Some(token), Sign::CloseIndex))
 }
 
 /// The tokens of a value or a condition, and those after it.
@@ -89,10 +109,7 @@ pub fn split_value(tokens: &[Token]) -> (&[Token], &[Token])
     ensures value { result.0.now ≡ value_tokens tokens.now }
     ensures rest { result.1.now ≡ value_rest tokens.now }
 {
-    match value_end(tokens) {
-        Some(end) => tokens.split_at(end),
-        None => tokens.split_at(tokens.len()),
-    }
+    tokens.split_at(value_end(tokens))
 }
 
 /// The letters of a word.
@@ -168,10 +185,20 @@ fn members_of(token: Option<&Token>) -> Option<Members>
 }
 
 /// The place of the token before which a value or a condition ends.
-fn value_end(tokens: &[Token]) -> Option<usize>
-    ensures { result ≡ position ends_value tokens.now }
+fn value_end(tokens: &[Token]) -> usize
+    ensures size { result ≡ value_size tokens.now }
+    ensures few { result ≤ length tokens.now }
 {
-    tokens.iter().position(|token| ends_value(token))
+    let mut size = 0;
+    let mut opened = 0;
+    for token in tokens {
+        if ends_here(opened, token) {
+            return size;
+        }
+        opened = open_after(opened, token);
+        size += 1;
+    }
+    size
 }
 
 /// The processes that a loop goes over: `in MEMBERS`.

@@ -47,6 +47,7 @@ fn is_own_local(jumps: &[Jump], place: usize, line: &LocalLine) -> bool
         LocalLine::Goto(_) => has_jump(jumps, place),
         LocalLine::Next { .. } => false,
         LocalLine::Assign { .. }
+        | LocalLine::AssignRow { .. }
         | LocalLine::Note(_)
         | LocalLine::Branch { .. }
         | LocalLine::First { .. } => true,

@@ -3,14 +3,18 @@
 ghost use Rattle.std.specs.Prelude.{◌≡◌, map, None, MatchResult, IsAscii, string_bytes, slice_get};
 ghost use Rattle.algorithms.specs.declared.fault.ReadFault.TheVariants.{OutOfMemory as NoMemory, BadForm as NoForm};
 ghost use Rattle.algorithm_texts.specs.Drafts.{draft_view};
-ghost use Rattle.algorithm_texts.specs.LineDrafts.{answer_place, Drafts, read_assigned_value, read_assigned, read_set_to, read_private_assignment, read_assignment, placed_answer, read_done, read_goto, read_simple};
-ghost use Rattle.algorithm_texts.specs.LineFaults.{set_to_fault, private_assignment_fault, assignment_fault, assigned_value_fault, assigned_fault, label_fault, simple_fault};
+ghost use Rattle.algorithm_texts.specs.LineDrafts.{answer_place, Drafts, read_assigned_value, read_assigned, read_set_to, read_private_assignment, read_private_set, read_assignment, placed_answer, read_done, read_goto, read_simple};
+ghost use Rattle.std.specs.Option.{option_map};
+ghost use Rattle.algorithm_texts.specs.Operands.{row_term};
+ghost use Rattle.algorithm_texts.specs.LineFaults.{set_to_fault, private_assignment_fault, private_set_fault, assignment_fault, assigned_value_fault, assigned_fault, label_fault, simple_fault};
 
 use crate::accesses::{begins_swap, begins_word};
 use crate::lines::{Draft, Jump};
 use crate::names::{is_declared, new_name, text_place};
 use crate::parts::{after, after_sign, check_end, ended_without_deed, letters, split_value};
+use crate::rows::row_read;
 use crate::tokens::{Sign, Token, is_sign, is_word};
+use algorithms::expression::Expression;
 use algorithms::fault::ReadFault;
 use algorithms::line::{LineKind, LocalLine};
 use std::alloc::Global;
@@ -71,7 +75,26 @@ impl Draft {
         };
         if is_declared(&self.algorithm, first.as_bytes()) {
             self.stores(alloc, tokens)
-        } else if is_sign(tokens.get(1), Sign::OpenIndex) {
+        } else {
+            let row = row_read(alloc, &self.algorithm, first.as_bytes())?;
+            self.private_set(alloc, row, tokens)
+        }
+    }
+
+    /// What is set whose name is no shared word: this row, where there is one, else a private name.
+    fn private_set(
+        &mut self,
+        alloc: Global,
+        row: Option<(usize, Expression)>,
+        tokens: &[Token],
+    ) -> Result<(), ReadFault>
+        ensures { Drafts (draft_view self.new) result (read_private_set (draft_view self.old) tokens.now (option_map row_term row))
+            (private_set_fault (draft_view self.old) tokens.now (option_map row_term row)) }
+    {
+        if let Some((first, size)) = row {
+            return self.set_row(alloc, first, size, after(tokens, 1));
+        }
+        if is_sign(tokens.get(1), Sign::OpenIndex) {
             Err(ReadFault::UnknownName)
         } else if is_sign(tokens.get(1), Sign::Assign) {
             self.sets(alloc, tokens)

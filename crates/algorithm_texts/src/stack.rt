@@ -2,11 +2,16 @@
 
 ghost use Rattle.std.specs.Prelude.{◌≡◌, ◌≤◌, ◌∷◌, [], List, ℕ, map, reverse, OnOk, IfOk, IfErr, MatchOption};
 ghost use Rattle.algorithms.specs.declared.fault.ReadFault.TheVariants.{OutOfMemory as NoMemory, BadForm as NoForm, TooBig as ManyBrackets};
-ghost use Rattle.algorithm_texts.specs.Parts.{part_of};
-ghost use Rattle.algorithm_texts.specs.Stacks.{Opened, is_open, brackets, stack_reduction, reading_after_bracket, closes, halves};
-ghost use Rattle.algorithm_texts.specs.Operands.{waits_of, stack_of, Reduces, Turns};
+ghost use Rattle.algorithm_texts.specs.Parts.{part_of, term_of};
+ghost use Rattle.algorithm_texts.specs.declared.tokens.Sign.TheVariants.{OpenIndex as OpenIndexSign};
+ghost use Rattle.algorithm_texts.specs.declared.tokens.Token.TheVariants.{Sign as SignToken};
+ghost use Rattle.algorithm_texts.specs.Grammar.{element_part};
+ghost use Rattle.algorithm_texts.specs.Stacks.{Opened, is_open, brackets, stack_reduction, reading_after_bracket, reading_after_row, closes, closes_index, halves};
+ghost use Rattle.algorithm_texts.specs.Operands.{waits_of, stack_of, Makes, Reduces, Turns};
 
+use crate::extents::index_within;
 use crate::operands::{Bracket, Joint, Operand, enclose, enclose_two, form_fault, join};
+use algorithms::expression::Expression;
 use algorithms::fault::ReadFault;
 use std::alloc::Global;
 
@@ -21,6 +26,8 @@ pub enum Waiting {
     Bracket(Bracket),
     /// An open bracket with its first part and a comma.
     Half(Bracket, Operand),
+    /// The open index of a row, by the first name of the row, with the row's size.
+    Index(usize, Expression),
 }
 
 /// What comes next.
@@ -30,6 +37,8 @@ pub enum StackPlace {
     Start,
     /// The bracket after its word.
     Head(Bracket),
+    /// The index of a row, by the first name of the row, with the row's size.
+    Row(usize, Expression),
     /// What follows this part.
     After(Operand),
 }
@@ -85,7 +94,7 @@ fn is_bracket(waiting: &Waiting) -> bool
 {
     match waiting {
         Waiting::Joint(_, _) => false,
-        Waiting::Bracket(_) | Waiting::Half(_, _) => true,
+        Waiting::Bracket(_) | Waiting::Half(_, _) | Waiting::Index(_, _) => true,
     }
 }
 
@@ -181,6 +190,50 @@ pub fn comma(stack: &mut Stack, part: Operand) -> Result<StackPlace, ReadFault>
         Some(Waiting::Bracket(head)) => half(stack, head, part),
         Some(last) => Err(form_fault((last, part))),
         None => Err(form_fault(part)),
+    }
+}
+
+/// A value of a row of this size, at this index.
+fn element(
+    alloc: Global,
+    first: usize,
+    size: Expression,
+    index: Operand,
+) -> Result<Operand, ReadFault>
+    ensures { Makes result (element_part first (term_of size) (part_of index)) }
+{
+    let index = index_within(alloc, index.value()?, size)?;
+    Ok(Operand::Value(Expression::Element(first, Box::new(alloc, index)?)))
+}
+
+/// Ends the innermost index, after this part.
+pub fn close_index(alloc: Global, stack: &mut Stack, part: Operand) -> Result<StackPlace, ReadFault>
+    ensures { (names : List (List ℕ)) → Turns names (stack_of stack.new) result
+        (closes_index names (stack_of stack.old) (part_of part)) NoForm }
+{
+    match stack.pop() {
+        Some(Waiting::Index(first, size)) => {
+            Ok(StackPlace::After(element(alloc, first, size, part)?))
+        }
+        last => Err(form_fault((last, part))),
+    }
+}
+
+/// Opens the index of a row. `TooBig` where brackets stand too deep.
+pub fn open_index(
+    stack: &mut Stack,
+    first: usize,
+    size: Expression,
+) -> Result<StackPlace, ReadFault>
+    ensures { (names : List (List ℕ)) → Turns names (stack_of stack.new) result
+        (reading_after_row names (stack_of stack.old) first (term_of size) (SignToken OpenIndexSign)) ManyBrackets }
+{
+    if stack.brackets() < DEEPEST {
+        stack.push(Waiting::Index(first, size))?;
+        Ok(StackPlace::Start)
+    } else {
+        drop(size);
+        Err(ReadFault::TooBig)
     }
 }
 

@@ -3,12 +3,12 @@
 ghost use Rattle.std.specs.Prelude.{◌≡◌, ◌||◌};
 ghost use Rattle.std.specs.Option.{option_map};
 ghost use Rattle.algorithm_texts.specs.Parts.{term_of, formula_of};
-ghost use Rattle.algorithm_texts.specs.Drafts.{access_of, act_of, form_of, local_form};
-ghost use Rattle.algorithm_texts.specs.Usage.{term_reads, formula_reads, formula_reads_if, index_reads, act_reads, reads, act_sets, sets, begins_loop, ends_loop, has_usage, may_withdraw};
+ghost use Rattle.algorithm_texts.specs.Drafts.{access_of, act_of, elements_form, form_of, local_form};
+ghost use Rattle.algorithm_texts.specs.Usage.{term_reads, formula_reads, formula_reads_if, index_reads, act_reads, elements_read, reads, act_sets, sets, begins_loop, ends_loop, has_usage, may_withdraw};
 
 use algorithms::condition::{Condition, Pair};
 use algorithms::expression::Expression;
-use algorithms::line::{AccessLine, Action, LineKind, LocalLine};
+use algorithms::line::{AccessLine, Action, Elements, LineKind, LocalLine};
 
 /// What a line does with a private name.
 #[derive(Clone, Copy)]
@@ -29,6 +29,7 @@ fn value_reads(value: &Expression, name: usize) -> bool
 {
     match value {
         Expression::Private(other) => *other == name,
+        Expression::Element(_, index) => value_reads(index, name),
         Expression::Joined(_, left, right) => value_reads(left, name) || value_reads(right, name),
         Expression::Number(_) | Expression::Me | Expression::Procs | Expression::Limit => false,
     }
@@ -101,12 +102,27 @@ fn access_reads(line: &AccessLine, name: usize) -> bool
     index_reads(&line.word.index, name) || action_reads(&line.action, name)
 }
 
+/// Whether the index of the values of a row that a line sets, or their number, reads a name.
+fn elements_read(elements: &Elements, name: usize) -> bool
+    ensures { result ≡ elements_read name (elements_form elements.now) }
+{
+    match elements {
+        Elements::All(size) => value_reads(size, name),
+        Elements::At(index) => value_reads(index, name),
+    }
+}
+
 /// Whether a local line reads a name.
 fn local_reads(line: &LocalLine, name: usize) -> bool
     ensures { result ≡ reads name (local_form line.now) }
 {
     match line {
         LocalLine::Assign { value, .. } => value_reads(value, name),
+        LocalLine::AssignRow {
+            elements,
+            value,
+            ..
+        } => elements_read(elements, name) || value_reads(value, name),
         LocalLine::Branch { condition, .. } => condition_reads(condition, name),
         LocalLine::Next { name: own, .. } => *own == name,
         LocalLine::Note(_) | LocalLine::Goto(_) | LocalLine::First { .. } => false,
@@ -141,7 +157,8 @@ fn local_sets(line: &LocalLine, name: usize) -> bool
 {
     match line {
         LocalLine::Assign { name: own, .. } => *own == name,
-        LocalLine::Note(_)
+        LocalLine::AssignRow { .. }
+        | LocalLine::Note(_)
         | LocalLine::Goto(_)
         | LocalLine::Branch { .. }
         | LocalLine::First { .. }

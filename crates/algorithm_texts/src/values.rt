@@ -2,18 +2,21 @@
 
 ghost use Rattle.std.specs.Prelude.{◌≡◌, ◌⊎◌, List, ℕ, IsAscii, IfOk, IfErr, OnOk, Some, MatchResult};
 ghost use Rattle.algorithms.specs.declared.fault.ReadFault.TheVariants.{OutOfMemory as NoMemory, BadForm as NoForm};
-ghost use Rattle.algorithm_texts.specs.declared.tokens.Sign.TheVariants.{Close as CloseSign, Comma as CommaSign};
+ghost use Rattle.algorithm_texts.specs.declared.tokens.Sign.TheVariants.{Close as CloseSign, CloseIndex as CloseIndexSign, Comma as CommaSign};
 ghost use Rattle.algorithm_texts.specs.declared.tokens.Token.TheVariants.{Word as WordToken, Sign as SignToken};
 ghost use Rattle.algorithm_texts.specs.Parts.{part_of, term_of, formula_of, Value as ValuePart, Condition as ConditionPart};
-ghost use Rattle.algorithm_texts.specs.Grammar.{word_value as word_value_of, Says};
-ghost use Rattle.algorithm_texts.specs.Stacks.{Waits, head_of, reading_after_word, reading_at_part, reading_after_head, joint_of, joining, reading_after_part, reading_after_token, run, part_at_end, read_part, reading, Begins};
+ghost use Rattle.algorithm_texts.specs.Grammar.{word_value as word_value_of, row_read, Says};
+ghost use Rattle.algorithm_texts.specs.Stacks.{Waits, head_of, reading_after_name, reading_after_word, reading_at_part, reading_after_head, reading_after_row, joint_of, joining, reading_after_part, reading_after_token, run, part_at_end, read_part, reading, Begins};
 ghost use Rattle.algorithm_texts.specs.Operands.{stack_of, next_of, Turns, MakesWord, EndsOperand, ReadsOperand, SayNoValue, SayNoCondition, scope_of, names_of, RefusesAs};
 ghost use Rattle.algorithm_texts.specs.LineDrafts.{read_value, read_condition};
-ghost use Rattle.algorithm_texts.specs.LineFaults.{name_read_fault, begun_fault, headed_fault, index_fault, followed_fault, token_fault, run_fault, value_fault};
+ghost use Rattle.algorithm_texts.specs.LineFaults.{name_read_fault, begun_fault, headed_fault, rowed_fault, index_fault, followed_fault, token_fault, run_fault, value_fault};
 
 use crate::names::named_value;
 use crate::operands::{Bracket, Joint, Operand, form_fault};
-use crate::stack::{Stack, StackPlace, Waiting, close, comma, open, reduce};
+use crate::rows::row_read;
+use crate::stack::{
+    Stack, StackPlace, Waiting, close, close_index, comma, open, open_index, reduce,
+};
 use crate::tokens::{Sign, Token, spells};
 use algorithms::algorithm::Algorithm;
 use algorithms::condition::Condition;
@@ -59,6 +62,24 @@ fn word_value(
     }
 }
 
+/// Reads a name where a part begins. The index of a row comes next after its name.
+fn first_name(
+    alloc: Global,
+    algorithm: &mut Algorithm,
+    word: &[u8],
+) -> Result<StackPlace, ReadFault>
+    requires { IsAscii word.now }
+    ensures place { (ws : List Waits) → Turns (names_of algorithm.new) ws result
+        (reading_after_name (scope_of algorithm.old) (names_of algorithm.old) ws word.now (row_read (scope_of algorithm.old) word.now))
+        (name_read_fault (scope_of algorithm.old) word.now) }
+    ensures kept { algorithm.new ≡ record algorithm.old { names = algorithm.new.names } }
+{
+    match row_read(alloc, algorithm, word)? {
+        Some((first, size)) => Ok(StackPlace::Row(first, size)),
+        None => Ok(StackPlace::After(Operand::Value(word_value(alloc, algorithm, word)?))),
+    }
+}
+
 /// Reads a word where a part begins.
 fn first_word(
     alloc: Global,
@@ -73,7 +94,7 @@ fn first_word(
 {
     match bracket_after(word) {
         Some(head) => Ok(StackPlace::Head(head)),
-        None => Ok(StackPlace::After(Operand::Value(word_value(alloc, algorithm, word)?))),
+        None => first_name(alloc, algorithm, word),
     }
 }
 
@@ -105,6 +126,25 @@ fn head(stack: &mut Stack, head: Bracket, token: &Token) -> Result<StackPlace, R
     match token {
         Token::Sign(Sign::Open) => open(stack, head),
         _ => Err(ReadFault::BadForm),
+    }
+}
+
+/// Reads the index of a row after its name.
+fn row_index(
+    stack: &mut Stack,
+    first: usize,
+    size: Expression,
+    token: &Token,
+) -> Result<StackPlace, ReadFault>
+    ensures { (names : List (List ℕ)) → Turns names (stack_of stack.new) result
+        (reading_after_row names (stack_of stack.old) first (term_of size) token.now) (rowed_fault token.now) }
+{
+    match token {
+        Token::Sign(Sign::OpenIndex) => open_index(stack, first, size),
+        _ => {
+            drop(size);
+            Err(ReadFault::BadForm)
+        }
     }
 }
 
@@ -171,6 +211,19 @@ fn close_after(alloc: Global, stack: &mut Stack, part: Operand) -> Result<StackP
     close(alloc, stack, whole)
 }
 
+/// Ends the innermost index.
+fn close_index_after(
+    alloc: Global,
+    stack: &mut Stack,
+    part: Operand,
+) -> Result<StackPlace, ReadFault>
+    ensures { (names : List (List ℕ)) → Turns names (stack_of stack.new) result
+        (reading_after_part names (stack_of stack.old) (part_of part) (SignToken CloseIndexSign)) NoForm }
+{
+    let whole = reduce(alloc, stack, part, 1)?;
+    close_index(alloc, stack, whole)
+}
+
 /// Reads the comma of the innermost bracket.
 fn comma_after(alloc: Global, stack: &mut Stack, part: Operand) -> Result<StackPlace, ReadFault>
     ensures { (names : List (List ℕ)) → Turns names (stack_of stack.new) result
@@ -204,7 +257,7 @@ fn sign_after(
         Sign::Assign => Err(form_fault(part)),
         Sign::Colon => Err(form_fault(part)),
         Sign::Open => Err(form_fault(part)),
-        Sign::CloseIndex => Err(form_fault(part)),
+        Sign::CloseIndex => close_index_after(alloc, stack, part),
     }
 }
 
@@ -241,6 +294,7 @@ fn turn(
     match place {
         StackPlace::Start => begin(alloc, algorithm, stack, token),
         StackPlace::Head(bracket) => head(stack, bracket, token),
+        StackPlace::Row(first, size) => row_index(stack, first, size, token),
         StackPlace::After(part) => go_on(alloc, stack, part, token),
     }
 }

@@ -21,7 +21,7 @@ use crate::writer::text_builder::TextBuilder;
 use algorithms::algorithm::{
     Algorithm, Declaration, Extent, NamedConstant, ProgressPromise, Promises,
 };
-use algorithms::expression::{Expression, Operator};
+use algorithms::expression::{Expression, Operator, is_in_row};
 use algorithms::fault::AlgorithmFault;
 use algorithms::first_values::{FirstValues, InitializedAlgorithm};
 use std::alloc::{AllocError, Global};
@@ -70,6 +70,7 @@ fn put_promises(text: &mut TextBuilder, promises: Promises) {
     put_step_bound(text, ", recovery", promises.recovery);
     put_step_bound(text, ", doorway", promises.doorway);
     put_progress(text, promises.progress);
+    text.put_when(promises.bounds, ", bounds");
 }
 
 /// Writes the first line.
@@ -189,12 +190,41 @@ fn put_private_names(alloc: Global, page: &mut AlgorithmText, algorithm: &Algori
     let mut place = 0;
     for name in &algorithm.names {
         if place < algorithm.lasting {
-            put_due_claims(alloc, page, algorithm);
-            page.text.put("private ");
-            page.text.put(name.as_str());
-            page.end_line();
+            put_lasting(alloc, page, algorithm, place, name.as_str());
             place += 1;
         }
+    }
+}
+
+/// Writes the row of this first name, where there is one.
+fn put_row(page: &mut AlgorithmText, algorithm: &Algorithm, first: usize) {
+    for row in &algorithm.rows {
+        if row.first == first {
+            page.text.put("private ");
+            page.text.put(row.name.as_str());
+            put_size(&mut page.text, &row.size);
+            page.end_line();
+        }
+    }
+}
+
+/// Writes the name at a place, or the row whose first name it is. The other names of a row are in the row.
+fn put_lasting(
+    alloc: Global,
+    page: &mut AlgorithmText,
+    algorithm: &Algorithm,
+    place: usize,
+    name: &str,
+) {
+    let is_single = !algorithm.rows.iter().any(|row| is_in_row(row.first, place));
+    if is_single {
+        put_due_claims(alloc, page, algorithm);
+        page.text.put("private ");
+        page.text.put(name);
+        page.end_line();
+    } else if algorithm.rows.iter().any(|row| row.first == place) {
+        put_due_claims(alloc, page, algorithm);
+        put_row(page, algorithm, place);
     }
 }
 

@@ -17,19 +17,19 @@ zeros_more d s at i low high e =
     ap (λ x. slice_set x i 0) e ∙ ap (λ j. slice_set (zeros d at (i - at)) j 0) (sym here) ∙ fill_from_more d at (i - at) 0 far ∙ ap (zeros d at) more
 
 -- to the end
-pub zeros_all : (d s : List ℕ) (at i : ℕ) → length d ≡ 32 → at ≤ 32 → i ≡ 32 → s ≡ zeros d at (i - at) → s ≡ lasting_names at d
+pub zeros_all : (d s : List ℕ) (at i : ℕ) → length d ≡ 64 → at ≤ 64 → i ≡ 64 → s ≡ zeros d at (i - at) → s ≡ lasting_names at d
 zeros_all d s at i long low end e =
-    let n : i - at ≡ 32 - at = omega arith in
-    let past : length d ≤ at + (32 - at) = omega arith in
-    e ∙ ap (zeros d at) n ∙ paste_all d at (replicate (32 - at) 0) (32 - at) (sym (length-replicate (32 - at) 0))
-    ∙ ap (λ rest. take at d ++ (replicate (32 - at) 0 ++ rest)) (drop_all (at + (32 - at)) d past)
-    ∙ ap (λ rest. take at d ++ rest) (append-nil (replicate (32 - at) 0))
+    let n : i - at ≡ 64 - at = omega arith in
+    let past : length d ≤ at + (64 - at) = omega arith in
+    e ∙ ap (zeros d at) n ∙ paste_all d at (replicate (64 - at) 0) (64 - at) (sym (length-replicate (64 - at) 0))
+    ∙ ap (λ rest. take at d ++ (replicate (64 - at) 0 ++ rest)) (drop_all (at + (64 - at)) d past)
+    ∙ ap (λ rest. take at d ++ rest) (append-nil (replicate (64 - at) 0))
 
 -- from a place past the end on none
-pub zeros_none : (d s : List ℕ) (at i : ℕ) → length d ≡ 32 → 32 < at → i ≡ at → s ≡ zeros d at (i - at) → s ≡ lasting_names at d
+pub zeros_none : (d s : List ℕ) (at i : ℕ) → length d ≡ 64 → 64 < at → i ≡ at → s ≡ zeros d at (i - at) → s ≡ lasting_names at d
 zeros_none d s at i long high start e =
     let n : i - at ≡ 0 = omega arith in
-    let m : 32 - at ≡ 0 = omega arith in
+    let m : 64 - at ≡ 0 = omega arith in
     let past : length d ≤ at = omega arith in
     e ∙ ap (zeros d at) n ∙ sym (paste_none d at [])
     ∙ sym (append-nil d) ∙ ap (λ x. x ++ []) (sym (take_all at d past))

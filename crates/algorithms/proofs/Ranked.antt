@@ -3,19 +3,19 @@ use Rattle.std.proofs.Common.{ℕ, zero, suc, ◌+◌, ◌-◌, ◌<◌, ◌≤�
 use Rattle.std.proofs.lemmas.Bool.{leb-true, le-leb, lt-ltb, ltb-true, eqb-true, eq-eqb}
 use Rattle.std.proofs.lemmas.Option.{same_Some, slice_get_within}
 use Rattle.algorithms.specs.Values.{expression_value, operation_value, holds, fitting}
-use Rattle.algorithms.specs.LocalRuns.{at_place, with_value, with_deed, least_from, member_from, end_value, first_number, number_after, round_at, local_line_done}
+use Rattle.algorithms.specs.LocalRuns.{at_place, with_value, names_after_row, with_names, with_deed, least_from, member_from, end_value, first_number, number_after, round_at, local_line_done}
 use Rattle.algorithms.specs.Arrivals.{GoesOn, GoesBack, RoundOutcome, Arrives, Repeats, outcome_after, after_round, further_rounds, is_way_back, local_step_of, most_local_rounds, round_outcome, step_to, ◌>>=◌}
 use Rattle.algorithms.specs.Ranked.{rank_of, is_line_below, is_below, literal_of, less_by, least_joined, least_value, has_round, ways_pass, is_line, is_line_at, form_falls, AllFall, LocalLinesEnd, AccessesLeadOn}
 use Rattle.algorithms.specs.declared.algorithm.Algorithm.{Algorithm}
 use Rattle.algorithms.specs.declared.constants.Constants.{Constants}
-use Rattle.algorithms.specs.declared.expression.Expression.{Expression, Number, Private, Me, Procs, Limit, Joined'}
+use Rattle.algorithms.specs.declared.expression.Expression.{Expression, Number, Private, Element', Me, Procs, Limit, Joined'}
 use Rattle.algorithms.specs.declared.expression.Operator.{Operator}
 use Rattle.algorithms.specs.declared.expression.Operator.TheVariants.{Sum, Difference, Product, Quotient, Remainder, Maximum, Minimum, Within}
 use Rattle.algorithms.specs.declared.line.LineKind.{LineKind}
 use Rattle.algorithms.specs.declared.line.LineKind.TheVariants.{Access, Local, Done}
 use Rattle.algorithms.specs.declared.line.AlgorithmLine.{AlgorithmLine}
 use Rattle.algorithms.specs.declared.line.LocalLine.{LocalLine}
-use Rattle.algorithms.specs.declared.line.LocalLine.TheVariants.{Assign, Note, Goto, Branch, First, Next}
+use Rattle.algorithms.specs.declared.line.LocalLine.TheVariants.{Assign, AssignRow, Note, Goto, Branch, First, Next}
 use Rattle.algorithms.specs.declared.line.Members.{Members}
 use Rattle.algorithms.specs.declared.line.Members.TheVariants.{All, Others, Lower, Higher, Up, Down}
 use Rattle.algorithms.specs.declared.local.LocalState.{LocalState}
@@ -76,6 +76,7 @@ module _ (least : ℕ) (c : Constants) (store : List ℕ) (many : least ≤ c.pr
       on None f e = absurd (cc)
       on (Some x) f e = let same : x - k ≡ v = fitting_is (nat_le k x) (x - k) v e in let h = low x f in omega (arith, h, same)
   difference_by a (Private k) v low e = omega arith
+  difference_by a (Element' row p index) v low e = omega arith
   difference_by a Me v low e = omega arith
   difference_by a Procs v low e = omega arith
   difference_by a Limit v low e = omega arith
@@ -95,6 +96,7 @@ module _ (least : ℕ) (c : Constants) (store : List ℕ) (many : least ≤ c.pr
   least_is : (e : Expression) (v : ℕ) → expression_value c store e ≡ Some v → least_value least e ≤ v
   least_is (Number n) v e = let same : n ≡ v = same_Some n v e in omega (arith, same)
   least_is (Private k) v e = omega arith
+  least_is (Element' row p index) v e = omega arith
   least_is Me v e = omega arith
   least_is Procs v e = let same : c.procs ≡ v = same_Some c.procs v e in omega (arith, same, many)
   least_is Limit v e = omega arith
@@ -111,9 +113,10 @@ up_some least (Number n) b c r many e = on (end_value c b) refl e
     on None f e = cc
     on (Some y) f e =
         let h = leb-true n (least_value least b) r in
-        let k = least_is least c (replicate 32 0) many b y f in
+        let k = least_is least c (replicate 64 0) many b y f in
         fitting_le n y n (omega (arith, h, k)) (same_Some (fitting (nat_le n y) n) None e)
 up_some least (Private k) b c r many e = absurd (cc)
+up_some least (Element' row p index) b c r many e = absurd (cc)
 up_some least Me b c r many e = absurd (cc)
 up_some least Procs b c r many e = absurd (cc)
 up_some least Limit b c r many e = absurd (cc)
@@ -127,9 +130,10 @@ down_some least a (Number n) c r many e = on (end_value c a) refl e
     on None f e = cc
     on (Some x) f e =
         let h = leb-true n (least_value least a) r in
-        let k = least_is least c (replicate 32 0) many a x f in
+        let k = least_is least c (replicate 64 0) many a x f in
         fitting_le n x x (omega (arith, h, k)) (same_Some (fitting (nat_le n x) x) None e)
 down_some least a (Private k) c r many e = absurd (cc)
+down_some least a (Element' row p index) c r many e = absurd (cc)
 down_some least a Me c r many e = absurd (cc)
 down_some least a Procs c r many e = absurd (cc)
 down_some least a Limit c r many e = absurd (cc)
@@ -161,6 +165,10 @@ goes_a_way : (test begins : ℕ → Bool) (least next : ℕ) (c : Constants) (s 
     → ways_pass test begins least next line ≡ true → local_line_done c next line s ≡ Some t → way_passes test begins line t.at ≡ true
 goes_a_way test begins least next c s t (Assign name value) own many w e =
     bind_lands test (expression_value c s.store value) (λ v. Some (at_place next (with_value name v s))) t e (λ v f. some_lands test (at_place next (with_value name v s)) t f w)
+goes_a_way test begins least next c s t (AssignRow row elements value) own many w e =
+    bind_lands test (expression_value c s.store value) (λ v. option_and_then (λ store. Some (at_place next (with_names store s))) (names_after_row c row elements v s.store)) t e
+    (λ v f. bind_lands test (names_after_row c row elements v s.store) (λ store. Some (at_place next (with_names store s))) t f
+    (λ store g. some_lands test (at_place next (with_names store s)) t g w))
 goes_a_way test begins least next c s t (Note deed) own many w e =
     bind_lands test (with_deed deed s) (λ u. Some (at_place next u)) t e (λ u f. some_lands test (at_place next u) t f w)
 goes_a_way test begins least next c s t (Goto place) own many w e = some_lands test (at_place place s) t e w

@@ -3,13 +3,13 @@
 use Rattle.std.specs.Prelude.{ℕ, nat_lt, Bool, false, not, ◌&&◌, ◌||◌, List, slice_get, Option, Some, None}
 use Rattle.std.specs.Ordering.{nat_cmp, ordering_then}
 use Rattle.algorithms.specs.Extents.{places_end}
-use Rattle.algorithms.specs.Values.{admits, fitting, operation_value, ◌>>=◌}
+use Rattle.algorithms.specs.Values.{admits, fitting, name_at, operation_value, ◌>>=◌}
 use Rattle.algorithms.specs.Worlds.{AlgorithmWorldState}
 use Rattle.algorithms.specs.declared.condition.Comparison.{Comparison}
 use Rattle.algorithms.specs.declared.condition.Condition.{Condition, Compare, ComparePairs, And', Or', Not'}
 use Rattle.algorithms.specs.declared.condition.Pair.{Pair}
 use Rattle.algorithms.specs.declared.constants.Constants.{Constants}
-use Rattle.algorithms.specs.declared.expression.Expression.{Expression, Number, Private, Me, Procs, Limit, Joined'}
+use Rattle.algorithms.specs.declared.expression.Expression.{Expression, Number, Private, Element', Me, Procs, Limit, Joined'}
 use Rattle.algorithms.specs.declared.line.WordOf.{WordOf}
 
 -- the value of a name, where there is such a name and it has one
@@ -21,6 +21,10 @@ known_name (Some value) = value
 abbrev pub known_value : Constants → List (Option ℕ) → Expression → Option ℕ
 known_value c names (Number n) = Some n
 known_value c names (Private k) = known_name (slice_get names k)
+known_value c names (Element' row p index) = do
+  i ← known_value c names index
+  name ← name_at row i
+  known_name (slice_get names name)
 known_value c names Me = Some c.me
 known_value c names Procs = Some c.procs
 known_value c names Limit = Some c.limit

@@ -14,7 +14,7 @@ constants_at procs limit i = record { me = i; procs = procs; limit = limit }
 
 -- a value in worlds of these sizes
 abbrev pub size_value : ℕ → ℕ → Expression → Option ℕ
-size_value procs limit size = expression_value (constants_at procs limit 0) (replicate 32 0) size
+size_value procs limit size = expression_value (constants_at procs limit 0) (replicate 64 0) size
 
 abbrev pub or_zero : Option ℕ → ℕ
 or_zero None = 0

@@ -1,11 +1,12 @@
 -- The words of a world at its beginning.
-use Rattle.std.specs.Prelude.{ℕ, zero, suc, min, Bool, true, ◌&&◌, List, [], ◌∷◌, ◌++◌, drop, length, replicate, slice_get, Option, Some, None, is_some, option_and_then}
+use Rattle.std.specs.Prelude.{ℕ, zero, suc, min, nat_le, Bool, true, false, ◌&&◌, List, [], ◌∷◌, ◌++◌, drop, length, replicate, slice_get, Option, Some, None, is_some, option_and_then}
 use Rattle.algorithms.specs.Accesses.{value_stored}
-use Rattle.algorithms.specs.Extents.{constants_at, or_zero, extent_length, owner_at, has_size}
+use Rattle.algorithms.specs.Extents.{constants_at, size_value, or_zero, extent_length, owner_at, has_size}
 use Rattle.algorithms.specs.Values.{expression_value}
 use Rattle.algorithms.specs.declared.algorithm.Algorithm.{Algorithm}
 use Rattle.algorithms.specs.declared.algorithm.Declaration.{Declaration}
 use Rattle.algorithms.specs.declared.algorithm.NamedConstant.{NamedConstant}
+use Rattle.algorithms.specs.declared.algorithm.NamedRow.{NamedRow}
 use Rattle.algorithms.specs.declared.expression.Expression.{Expression}
 use Rattle.algorithms.specs.declared.first_rows.FirstRows.{FirstRows}
 use Rattle.algorithms.specs.declared.first_values.FirstValues.{FirstValues}
@@ -34,7 +35,7 @@ all_below test (suc n) = all_below test n && test n
 abbrev pub first_value : ℕ → ℕ → Declaration → Expression → ℕ → Option ℕ
 first_value procs limit d value i =
     option_and_then (λ stored. stored)
-    (value_stored (constants_at procs limit (owner_at procs limit d.extent i)) (replicate 32 0) d (Store value))
+    (value_stored (constants_at procs limit (owner_at procs limit d.extent i)) (replicate 64 0) d (Store value))
 
 -- how many words a declaration has, at most 64
 abbrev pub declaration_size : ℕ → ℕ → Declaration → ℕ
@@ -83,10 +84,22 @@ has_first_words a procs limit v =
 -- a constant has a value at these sizes
 abbrev pub has_constant : ℕ → ℕ → Option NamedConstant → Bool
 has_constant procs limit None = true
-has_constant procs limit (Some constant) = is_some (expression_value (constants_at procs limit 0) (replicate 32 0) constant.value)
+has_constant procs limit (Some constant) = is_some (expression_value (constants_at procs limit 0) (replicate 64 0) constant.value)
 
 abbrev pub has_constants : Algorithm → ℕ → ℕ → Bool
 has_constants a procs limit = all_below (λ k. has_constant procs limit (slice_get a.constants.items k)) (length a.constants.items)
+
+-- a row of private names has 1 to 16 values
+abbrev pub is_row_size : Option ℕ → Bool
+is_row_size None = false
+is_row_size (Some n) = nat_le 1 n && nat_le n 16
+
+abbrev pub has_row_size : ℕ → ℕ → Option NamedRow → Bool
+has_row_size procs limit None = true
+has_row_size procs limit (Some row) = is_row_size (size_value procs limit row.size)
+
+abbrev pub has_row_sizes : Algorithm → ℕ → ℕ → Bool
+has_row_sizes a procs limit = all_below (λ k. has_row_size procs limit (slice_get a.rows.items k)) (length a.rows.items)
 
 -- the size of an array is one of these worlds
 abbrev pub has_extent : ℕ → ℕ → Option Declaration → Bool
@@ -96,10 +109,11 @@ has_extent procs limit (Some d) = has_size procs limit d.extent
 abbrev pub has_extents : Algorithm → ℕ → ℕ → Bool
 has_extents a procs limit = all_below (λ k. has_extent procs limit (slice_get a.declarations.items k)) (length a.declarations.items)
 
--- where first values are said, each constant has a value at these sizes, each array has words, and each word a first value
+-- where first values are said, each constant has a value at these sizes, each row of private names a size, each array words, and each word a first value
 abbrev pub has_all_values : Algorithm → ℕ → ℕ → Option FirstValues → Bool
 has_all_values a procs limit None = true
-has_all_values a procs limit (Some v) = has_constants a procs limit && (has_extents a procs limit && has_first_words a procs limit v)
+has_all_values a procs limit (Some v) =
+    has_constants a procs limit && (has_row_sizes a procs limit && (has_extents a procs limit && has_first_words a procs limit v))
 
 -- ---- the rows of a world
 

@@ -12,7 +12,7 @@ use Rattle.algorithms.specs.declared.expression.Expression.{Expression}
 abbrev pub home_value : ℕ → ℕ → Option Expression → ℕ → Option ℕ
 home_value procs limit None i = None
 home_value procs limit (Some home) i = do
-  p ← expression_value (constants_at procs limit i) (replicate 32 0) home
+  p ← expression_value (constants_at procs limit i) (replicate 64 0) home
   fitting (nat_lt p procs) p
 
 abbrev pub home_among : ℕ → ℕ → Option Declaration → ℕ → Option ℕ

@@ -1,13 +1,15 @@
 -- The local lines of a process: what it does between two accesses, as a function of its names and its place.
-use Rattle.std.specs.Prelude.{ℕ, ◌+◌, ◌-◌, ◌^◌, max, nat_lt, nat_le, nat_eq, if◌then◌else◌, replicate, slice_get, slice_set, Option, Some, None}
-use Rattle.algorithms.specs.Values.{expression_value, holds, fitting, ◌>>=◌}
+use Rattle.std.specs.Prelude.{ℕ, zero, suc, ◌+◌, ◌-◌, ◌^◌, max, nat_lt, nat_le, nat_eq, if◌then◌else◌, List, replicate, slice_get, slice_set, Option, Some, None}
+use Rattle.algorithms.specs.Values.{expression_value, holds, fitting, name_at, ◌>>=◌}
 use Rattle.algorithms.specs.declared.constants.Constants.{Constants}
 use Rattle.algorithms.specs.declared.expression.Expression.{Expression}
 use Rattle.algorithms.specs.declared.line.AlgorithmDeed.{AlgorithmDeed}
+use Rattle.algorithms.specs.declared.line.Elements.{Elements}
+use Rattle.algorithms.specs.declared.line.Elements.TheVariants as which
 use Rattle.algorithms.specs.declared.line.Members.{Members}
 use Rattle.algorithms.specs.declared.line.Members.TheVariants.{All, Others, Lower, Higher, Up, Down}
 use Rattle.algorithms.specs.declared.line.LocalLine.{LocalLine}
-use Rattle.algorithms.specs.declared.line.LocalLine.TheVariants.{Assign, Note, Goto, Branch, First, Next}
+use Rattle.algorithms.specs.declared.line.LocalLine.TheVariants.{Assign, AssignRow, Note, Goto, Branch, First, Next}
 use Rattle.algorithms.specs.declared.noted.NotedDeeds.{NotedDeeds}
 use Rattle.algorithms.specs.declared.local.LocalState.{LocalState}
 
@@ -48,7 +50,7 @@ least_from c members from = fitting (nat_lt (member_from c members from) (end_of
 
 -- the value of an end of a loop, which has no private name
 abbrev pub end_value : Constants → Expression → Option ℕ
-end_value c end = expression_value c (replicate 32 0) end
+end_value c end = expression_value c (replicate 64 0) end
 
 -- the least process of a set after this one. None as a whole: its number has none after it
 abbrev pub further_from : Constants → Members → ℕ → Option (Option ℕ)
@@ -90,6 +92,28 @@ at_place at s = record { at = at; store = s.store; noted = s.noted }
 abbrev pub with_value : ℕ → ℕ → LocalState → LocalState
 with_value name v s = record { at = s.at; store = slice_set s.store name v; noted = s.noted }
 
+-- the first names of a row are set: as many as its size to the value, the others to 0
+abbrev pub with_first_names : ℕ → ℕ → ℕ → ℕ → List ℕ → List ℕ
+with_first_names row size v zero store = store
+with_first_names row size v (suc k) store = slice_set (with_first_names row size v k store) (row + k) (if nat_lt k size then v else 0)
+
+-- all values of a row are set
+abbrev pub with_row : ℕ → ℕ → ℕ → List ℕ → List ℕ
+with_row row size v store = with_first_names row size v 16 store
+
+-- the names once these values of a row are set
+abbrev pub names_after_row : Constants → ℕ → Elements → ℕ → List ℕ → Option (List ℕ)
+names_after_row c row (which.All size) v store = do
+  n ← expression_value c store size
+  Some (with_row row n v store)
+names_after_row c row (which.At index) v store = do
+  i ← expression_value c store index
+  name ← name_at row i
+  Some (slice_set store name v)
+
+abbrev pub with_names : List ℕ → LocalState → LocalState
+with_names store s = record { at = s.at; store = store; noted = s.noted }
+
 abbrev pub with_deed : AlgorithmDeed → LocalState → Option LocalState
 with_deed deed s = do
   noted ← noting deed s.noted
@@ -105,6 +129,10 @@ abbrev pub local_line_done : Constants → ℕ → LocalLine → LocalState → 
 local_line_done c next (Assign name value) s = do
   v ← expression_value c s.store value
   Some (at_place next (with_value name v s))
+local_line_done c next (AssignRow row elements value) s = do
+  v ← expression_value c s.store value
+  store ← names_after_row c row elements v s.store
+  Some (at_place next (with_names store s))
 local_line_done c next (Note deed) s = do
   noted ← with_deed deed s
   Some (at_place next noted)

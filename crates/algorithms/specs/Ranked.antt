@@ -4,7 +4,7 @@ use Rattle.std.specs.Prelude.{◌≡◌, ℕ, ◌+◌, ◌-◌, ◌<◌, ◌≤�
 use Rattle.algorithms.specs.Arrivals.{arrives, most_local_rounds}
 use Rattle.algorithms.specs.declared.algorithm.Algorithm.{Algorithm}
 use Rattle.algorithms.specs.declared.constants.Constants.{Constants}
-use Rattle.algorithms.specs.declared.expression.Expression.{Expression, Number, Private, Me, Procs, Limit, Joined'}
+use Rattle.algorithms.specs.declared.expression.Expression.{Expression, Number, Private, Element', Me, Procs, Limit, Joined'}
 use Rattle.algorithms.specs.declared.expression.Operator.{Operator}
 use Rattle.algorithms.specs.declared.expression.Operator.TheVariants.{Sum, Difference, Product, Quotient, Remainder, Maximum, Minimum, Within}
 use Rattle.algorithms.specs.declared.line.AccessLine.{AccessLine}
@@ -12,7 +12,7 @@ use Rattle.algorithms.specs.declared.line.LineKind.{LineKind}
 use Rattle.algorithms.specs.declared.line.LineKind.TheVariants.{Access, Local, Done}
 use Rattle.algorithms.specs.declared.line.AlgorithmLine.{AlgorithmLine}
 use Rattle.algorithms.specs.declared.line.LocalLine.{LocalLine}
-use Rattle.algorithms.specs.declared.line.LocalLine.TheVariants.{Assign, Note, Goto, Branch, First, Next}
+use Rattle.algorithms.specs.declared.line.LocalLine.TheVariants.{Assign, AssignRow, Note, Goto, Branch, First, Next}
 use Rattle.algorithms.specs.declared.line.Members.{Members}
 use Rattle.algorithms.specs.declared.line.Members.TheVariants.{All, Others, Lower, Higher, Up, Down}
 use Rattle.algorithms.specs.declared.local.LocalState.{LocalState}
@@ -38,6 +38,7 @@ is_below lines ranks rank place = is_line_below ranks rank place (slice_get line
 abbrev pub literal_of : Expression → Option ℕ
 literal_of (Number n) = Some n
 literal_of (Private k) = None
+literal_of (Element' row p index) = None
 literal_of Me = None
 literal_of Procs = None
 literal_of Limit = None
@@ -61,6 +62,7 @@ least_joined Within x k = 0
 abbrev pub least_value : ℕ → Expression → ℕ
 least_value least (Number n) = n
 least_value least (Private k) = 0
+least_value least (Element' row p index) = 0
 least_value least Me = 0
 least_value least Procs = least
 least_value least Limit = 0
@@ -83,6 +85,7 @@ has_round least (Down a b) = is_at_most (literal_of b) (least_value least a)
 -- loop begins has a test of its own
 abbrev pub ways_pass : (test begins : ℕ → Bool) → ℕ → ℕ → LocalLine → Bool
 ways_pass test begins least next (Assign name value) = test next
+ways_pass test begins least next (AssignRow row elements value) = test next
 ways_pass test begins least next (Note deed) = test next
 ways_pass test begins least next (Goto place) = test place
 ways_pass test begins least next (Branch condition otherwise) = test next && test otherwise

@@ -20,7 +20,7 @@ use Rattle.algorithms.specs.declared.refusal.AlgorithmRefusal.TheVariants.{OutOf
 
 -- what a call leaves of the names: the first ones stay, the others are 0
 abbrev pub lasting_names : ℕ → List ℕ → List ℕ
-lasting_names lasting store = take lasting store ++ replicate (32 - lasting) 0
+lasting_names lasting store = take lasting store ++ replicate (64 - lasting) 0
 
 -- a process before the access at a place, or at rest after its call
 abbrev pub process_landed : ℕ → LocalState → Option ℕ → AlgorithmProcess

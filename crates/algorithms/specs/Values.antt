@@ -1,11 +1,11 @@
 -- What values and conditions of an algorithm come to: arithmetic on numbers of 64 bits, with no value where that leaves them.
-use Rattle.std.specs.Prelude.{ℕ, ◌+◌, ◌-◌, ◌*◌, ◌/◌, ◌%◌, ◌^◌, max, min, nat_lt, nat_le, Bool, true, false, not, if◌then◌else◌, List, slice_get, Option, Some, None, option_and_then}
+use Rattle.std.specs.Prelude.{ℕ, ◌+◌, ◌-◌, ◌*◌, ◌/◌, ◌%◌, ◌^◌, max, min, nat_lt, nat_le, Bool, true, false, ◌&&◌, not, if◌then◌else◌, List, slice_get, Option, Some, None, option_and_then}
 use Rattle.std.specs.Ordering.{nat_cmp, ordering_then, is_eq, is_ne, is_lt, is_le, is_gt, is_ge}
 use Rattle.std.specs.declared.cmp.Ordering.{Ordering}
 use Rattle.algorithms.specs.declared.constants.Constants.{Constants}
 use Rattle.algorithms.specs.declared.expression.Operator.{Operator}
 use Rattle.algorithms.specs.declared.expression.Operator.TheVariants.{Sum, Difference, Product, Quotient, Remainder, Maximum, Minimum, Within}
-use Rattle.algorithms.specs.declared.expression.Expression.{Expression, Number, Private, Me, Procs, Limit, Joined'}
+use Rattle.algorithms.specs.declared.expression.Expression.{Expression, Number, Private, Element', Me, Procs, Limit, Joined'}
 use Rattle.algorithms.specs.declared.condition.Comparison.{Comparison}
 use Rattle.algorithms.specs.declared.condition.Comparison.TheVariants.{Equal, NotEqual, Less, AtMost, Greater, AtLeast}
 use Rattle.algorithms.specs.declared.condition.Pair.{Pair}
@@ -30,10 +30,22 @@ operation_value Maximum a b = Some (max a b)
 operation_value Minimum a b = Some (min a b)
 operation_value Within a b = fitting (nat_lt a b) a
 
+-- a name is of the row with this first name. A row has 16 names
+abbrev pub is_in_row : ℕ → ℕ → Bool
+is_in_row row name = nat_le row name && nat_lt (name - row) 16
+
+-- the name at an index of a row
+abbrev pub name_at : ℕ → ℕ → Option ℕ
+name_at row i = fitting (nat_lt i 16 && nat_lt row 64) (row + i)
+
 -- a value, with these constants and values of the private names
 abbrev pub expression_value : Constants → List ℕ → Expression → Option ℕ
 expression_value c store (Number n) = Some n
 expression_value c store (Private k) = slice_get store k
+expression_value c store (Element' row p index) = do
+  i ← expression_value c store index
+  name ← name_at row i
+  slice_get store name
 expression_value c store Me = Some c.me
 expression_value c store Procs = Some c.procs
 expression_value c store Limit = Some c.limit

@@ -36,7 +36,7 @@ pub record AlgorithmWorldState : Type 0 where
   pub processes : List AlgorithmProcess
 
 abbrev pub no_names : List ℕ
-no_names = replicate 32 0
+no_names = replicate 64 0
 
 abbrev pub resting : AlgorithmProcess
 resting = record { place = Rest; store = no_names }

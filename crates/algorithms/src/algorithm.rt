@@ -32,6 +32,8 @@ pub struct Promises {
     pub doorway: Option<u64>,
     /// What becomes of calls under way, where it is promised.
     pub progress: Option<ProgressPromise>,
+    /// No move is refused since a value would leave its range.
+    pub bounds: bool,
 }
 
 /// A constant of a text: a name for a value of numbers, `procs` and `limit`. Where it stood in a line, its value stands there.
@@ -39,6 +41,14 @@ pub struct Promises {
 pub struct NamedConstant {
     pub name: String,
     pub value: Expression,
+}
+
+/// A row of private names: its name, the first of its names, and its size of numbers, `procs` and `limit`.
+#[derive(Debug, Drop)]
+pub struct NamedRow {
+    pub name: String,
+    pub first: usize,
+    pub size: Expression,
 }
 
 /// How many words a declaration has.
@@ -110,6 +120,8 @@ pub struct Algorithm {
     /// The private names. The first `lasting` of them stay from call to call, until a crash.
     pub names: Vec<String>,
     pub lasting: usize,
+    /// The rows among the names that stay, each of `MOST_ELEMENTS` names.
+    pub rows: Vec<NamedRow>,
     pub answers: Vec<String>,
     pub lines: Vec<AlgorithmLine>,
     pub entries: Entries,

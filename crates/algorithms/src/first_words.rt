@@ -1,12 +1,12 @@
 //! The words of a world at its beginning, by the first values that are said.
 
 ghost use Rattle.std.specs.Prelude.{◌≡◌, ◌≤◌, Some, IfOk, IfErr, slice_get};
-ghost use Rattle.algorithms.specs.FirstWords.{declaration_size, first_value, row_of_values, first_row, rows_said, held_rows, first_rows, has_values, has_row, has_first_words, has_constant, has_constants, has_extent, has_extents, has_all_values};
+ghost use Rattle.algorithms.specs.FirstWords.{declaration_size, first_value, row_of_values, first_row, rows_said, held_rows, first_rows, has_values, has_row, has_first_words, has_constant, has_constants, is_row_size, has_row_size, has_row_sizes, has_extent, has_extents, has_all_values};
 
 use crate::access::value_within;
 use crate::algorithm::{Algorithm, Declaration};
 use crate::constants::{Constants, MOST_PROCS};
-use crate::expression::{Expression, NAMES};
+use crate::expression::{Expression, MOST_ELEMENTS, NAMES};
 use crate::extents::or_zero;
 use crate::first_rows::FirstRows;
 use crate::first_values::FirstValues;
@@ -212,6 +212,41 @@ fn has_constants(algorithm: &Algorithm, procs: u64, limit: u64) -> bool
     fit
 }
 
+/// Whether a row of private names may have this size.
+fn is_row_size(size: Option<u64>) -> bool
+    ensures { result ≡ is_row_size size }
+{
+    match size {
+        None => false,
+        Some(size) => 1 <= size && size <= MOST_ELEMENTS as u64,
+    }
+}
+
+/// Whether the row of private names at a place has a size in these worlds.
+fn has_row_size(algorithm: &Algorithm, place: usize, procs: u64, limit: u64) -> bool
+    ensures { result ≡ has_row_size procs limit (slice_get algorithm.now.rows.items place) }
+{
+    let me = 0;
+    let constants = Constants { me, procs, limit };
+    match algorithm.rows.get(place) {
+        None => true,
+        Some(row) => is_row_size(row.size.evaluate(constants, &[0; NAMES])),
+    }
+}
+
+/// Whether each row of private names has a size in these worlds.
+#[tactic(auto, using(crate::proofs::FirstWords::below_more))]
+fn has_row_sizes(algorithm: &Algorithm, procs: u64, limit: u64) -> bool
+    ensures { result ≡ has_row_sizes algorithm.now procs limit }
+{
+    let mut fit = true;
+    for place in 0..algorithm.rows.len() {
+        let is_there = has_row_size(algorithm, place, procs, limit);
+        fit = fit && is_there;
+    }
+    fit
+}
+
 /// Whether the declaration at a place has words at these sizes.
 fn has_extent(algorithm: &Algorithm, place: usize, procs: u64, limit: u64) -> bool
     ensures { result ≡ has_extent procs limit (slice_get algorithm.now.declarations.items place) }
@@ -235,7 +270,8 @@ fn has_extents(algorithm: &Algorithm, procs: u64, limit: u64) -> bool
     fit
 }
 
-/// Whether each constant has a value at these sizes, each array words, and each word a first value, where first values are said.
+/// Whether each constant has a value at these sizes, each row of private names a size, each array words, and each word a first
+/// value, where first values are said.
 pub fn has_all_values(
     algorithm: &Algorithm,
     values: &Option<FirstValues>,
@@ -248,8 +284,9 @@ pub fn has_all_values(
         None => true,
         Some(values) => {
             has_constants(algorithm, procs, limit)
-                && (has_extents(algorithm, procs, limit)
-                    && has_first_words(algorithm, values, procs, limit))
+                && (has_row_sizes(algorithm, procs, limit)
+                    && (has_extents(algorithm, procs, limit)
+                        && has_first_words(algorithm, values, procs, limit)))
         }
     }
 }

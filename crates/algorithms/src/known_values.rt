@@ -5,7 +5,7 @@ ghost use Rattle.algorithms.specs.Claims.{known_name, known_value, known_pair, k
 
 use crate::condition::{Comparison, Condition, Pair};
 use crate::constants::Constants;
-use crate::expression::{Expression, NAMES};
+use crate::expression::{Expression, NAMES, name_at};
 use crate::line::WordOf;
 use crate::world::AlgorithmWorld;
 
@@ -27,6 +27,11 @@ impl Expression {
         match self {
             Expression::Number(number) => Some(*number),
             Expression::Private(name) => known_name(names, *name),
+            Expression::Element(row, index) => {
+                let index = index.known_value(constants, names)?;
+                let name = name_at(*row, index)?;
+                known_name(names, name)
+            }
             Expression::Me => Some(constants.me),
             Expression::Procs => Some(constants.procs),
             Expression::Limit => Some(constants.limit),

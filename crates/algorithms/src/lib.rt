@@ -28,16 +28,17 @@ pub mod world;
 
 pub use access::{Address, Advanced, Moved, Taken, WordAccess};
 pub use algorithm::{
-    Algorithm, AlgorithmCall, Declaration, Entries, Extent, NamedConstant, ProgressPromise,
-    Promises,
+    Algorithm, AlgorithmCall, Declaration, Entries, Extent, NamedConstant, NamedRow,
+    ProgressPromise, Promises,
 };
 pub use condition::{Comparison, Condition, Pair};
 pub use constants::{Constants, MOST_PROCS};
-pub use expression::{Expression, NAMES, Operator};
+pub use expression::{Expression, MOST_ELEMENTS, NAMES, Operator, is_in_row, name_at};
 pub use fault::{AlgorithmFault, ReadFault};
 pub use first_values::{FirstValues, InitializedAlgorithm};
 pub use line::{
-    AccessLine, Action, AlgorithmDeed, AlgorithmLine, LineKind, LocalLine, Members, WordOf,
+    AccessLine, Action, AlgorithmDeed, AlgorithmLine, Elements, LineKind, LocalLine, Members,
+    WordOf,
 };
 pub use never_claim::{ClaimedPhase, NeverClaim, StateFact};
 pub use noted::NotedDeeds;

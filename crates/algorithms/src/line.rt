@@ -75,11 +75,26 @@ pub struct AccessLine {
     pub may_withdraw: bool,
 }
 
+/// Which values of a row of private names a line sets.
+#[derive(Debug, Drop)]
+pub enum Elements {
+    /// All, by the row's size. The names of the row that are left become 0.
+    All(Expression),
+    /// The one at this index.
+    At(Expression),
+}
+
 /// A line that touches no shared word.
 #[derive(Debug, Drop)]
 pub enum LocalLine {
     Assign {
         name: usize,
+        value: Expression,
+    },
+    /// Sets values of a row of private names, by the first name of the row.
+    AssignRow {
+        row: usize,
+        elements: Elements,
         value: Expression,
     },
     Note(AlgorithmDeed),

@@ -1,12 +1,13 @@
 //! What a process does between two accesses. It is local and free, and it ends.
 
 ghost use Rattle.std.specs.Prelude.{◌≡◌, ◌<◌, Some, None, Ok, Err, IfOk, IfErr, IfSome, length, slice_set};
-ghost use Rattle.algorithms.specs.LocalRuns.{at_place, with_value, with_deed, least_from, end_value, first_number, number_after, round_at, local_line_done};
+ghost use Rattle.algorithms.specs.LocalRuns.{at_place, with_value, with_row, names_after_row, with_deed, least_from, end_value, first_number, number_after, round_at, local_line_done};
 ghost use Rattle.algorithms.specs.Arrivals.{local_step_at, is_way_back, round_outcome, arrives, landing, most_local_rounds, IsDone, IsRoundEnd};
+ghost use Rattle.algorithms.specs.declared.line.LocalLine.TheVariants.{AssignRow as RowLine, Next as NextLine};
 
 use crate::constants::Constants;
-use crate::expression::{Expression, NAMES};
-use crate::line::{AlgorithmDeed, AlgorithmLine, LineKind, LocalLine, Members};
+use crate::expression::{Expression, MOST_ELEMENTS, NAMES, name_at};
+use crate::line::{AlgorithmDeed, AlgorithmLine, Elements, LineKind, LocalLine, Members};
 use crate::noted::NotedDeeds;
 use crate::refusal::AlgorithmRefusal;
 
@@ -46,6 +47,41 @@ pub fn set_name(store: &mut [u64; NAMES], name: usize, value: u64)
     if name < NAMES {
         store[name] = value;
     }
+}
+
+/// Sets all values of a row of this size. The names of the row that are left become 0.
+fn set_row(store: &mut [u64; NAMES], row: usize, size: u64, value: u64)
+    ensures { store.new ≡ with_row row size value store.old }
+{
+    for index in 0..MOST_ELEMENTS {
+        let here = if (index as u64) < size { value } else { 0 };
+        set_name(store, row.saturating_add(index), here);
+    }
+}
+
+/// Sets these values of a row. `None` where there is no such value, or one is out of range.
+fn set_elements(
+    store: &mut [u64; NAMES],
+    row: usize,
+    elements: &Elements,
+    constants: Constants,
+    value: u64,
+) -> Option<()>
+    ensures done { IfSome result (λ done. names_after_row constants row elements.now value store.old ≡ Some store.new) }
+    ensures out { result ≡ None → names_after_row constants row elements.now value store.old ≡ None }
+{
+    match elements {
+        Elements::All(size) => {
+            let size = size.evaluate(constants, store)?;
+            set_row(store, row, size, value);
+        }
+        Elements::At(index) => {
+            let index = index.evaluate(constants, store)?;
+            let name = name_at(row, index)?;
+            set_name(store, name, value);
+        }
+    }
+    Some(())
 }
 
 /// The value of an end of a loop.
@@ -166,6 +202,45 @@ impl LocalState {
         }
     }
 
+    /// Sets values of a row, and goes to the next line. `None` where a value is out of range.
+    fn assign_row(
+        &mut self,
+        row: usize,
+        elements: &Elements,
+        value: &Expression,
+        constants: Constants,
+        next: usize,
+    ) -> Option<()>
+        ensures done { IfSome result (λ done.
+            local_line_done constants next (RowLine row elements.now value.now) self.old ≡ Some self.new) }
+        ensures out { result ≡ None → local_line_done constants next (RowLine row elements.now value.now) self.old ≡ None }
+    {
+        let value = value.evaluate(constants, &self.store)?;
+        set_elements(&mut self.store, row, elements, constants, value)?;
+        self.go_to(next);
+        Some(())
+    }
+
+    /// Ends a round of a loop: it begins the next one, or goes to the line after the loop. `None` where a value is out of range.
+    fn go_on(
+        &mut self,
+        name: usize,
+        members: &Members,
+        constants: Constants,
+        body: usize,
+        after: usize,
+    ) -> Option<()>
+        requires { constants.me < constants.procs }
+        ensures done { IfSome result (λ done.
+            local_line_done constants after (NextLine name members.now body) self.old ≡ Some self.new) }
+        ensures out { result ≡ None → local_line_done constants after (NextLine name members.now body) self.old ≡ None }
+    {
+        let number = self.store.get(name).copied()?;
+        let member = members.number_after(constants, number)?;
+        self.go_round(member, name, body, after);
+        Some(())
+    }
+
     /// Does one local line, of which `next` is the place of the line after it. `None` where a value is out of range.
     fn do_local(&mut self, line: &LocalLine, constants: Constants, next: usize) -> Option<()>
         requires { constants.me < constants.procs }
@@ -178,6 +253,11 @@ impl LocalState {
                 self.set(*name, value);
                 self.go_to(next);
             }
+            LocalLine::AssignRow {
+                row,
+                elements,
+                value,
+            } => self.assign_row(*row, elements, value, constants, next)?,
             LocalLine::Note(deed) => {
                 self.note(*deed)?;
                 self.go_to(next);
@@ -202,11 +282,7 @@ impl LocalState {
                 name,
                 members,
                 body,
-            } => {
-                let number = self.store.get(*name).copied()?;
-                let member = members.number_after(constants, number)?;
-                self.go_round(member, *name, *body, next);
-            }
+            } => self.go_on(*name, members, constants, *body, next)?,
         }
         Some(())
     }
@@ -219,6 +295,7 @@ fn is_way_back(line: &LocalLine, at: usize) -> bool
     match line {
         LocalLine::Next { body, .. } => *body == at,
         LocalLine::Assign { .. }
+        | LocalLine::AssignRow { .. }
         | LocalLine::Note(_)
         | LocalLine::Goto(_)
         | LocalLine::Branch { .. }

@@ -26,6 +26,13 @@ pub fn same_value(left: &Expression, right: &Expression) -> bool
                 false
             }
         }
+        Expression::Element(row, index) => {
+            if let Expression::Element(other, own) = right {
+                *row == *other && same_value(index, own)
+            } else {
+                false
+            }
+        }
         Expression::Me => matches!(right, Expression::Me),
         Expression::Procs => matches!(right, Expression::Procs),
         Expression::Limit => matches!(right, Expression::Limit),

@@ -11,6 +11,15 @@ pub fn put_name(text: &mut TextBuilder, names: &[String], name: usize) {
     }
 }
 
+/// Writes the name of a row, by the first of its names, which is `NAME[0]`.
+pub fn put_row_name(text: &mut TextBuilder, names: &[String], first: usize) {
+    if let Some(name) = names.get(first) {
+        if let Some((row, _)) = name.as_str().split_once("[") {
+            text.put(row);
+        }
+    }
+}
+
 /// How strongly an operator binds. The two that are written before a bracket bind strongest.
 fn strength(operator: Operator) -> u64 {
     match operator {
@@ -20,7 +29,7 @@ fn strength(operator: Operator) -> u64 {
     }
 }
 
-/// What is written between two values. What is written of `Within` is read as no value: no sign spells it but the brackets of an index.
+/// What is written between two values. `Within` is not written: no sign spells it but the brackets of an index.
 fn operator_text(operator: Operator) -> &'static str {
     match operator {
         Operator::Sum => " + ",
@@ -66,7 +75,8 @@ fn comparison_text(comparison: Comparison) -> &'static str {
     }
 }
 
-/// Writes a value, in brackets where its last operator binds less strongly than this. `me` is the word for the process's number.
+/// Writes a value, in brackets where its last operator binds less strongly than this. Of an index the size that it is below is not
+/// written. `me` is the word for the process's number.
 fn put_value_of(
     text: &mut TextBuilder,
     names: &[String],
@@ -77,9 +87,18 @@ fn put_value_of(
     match value {
         Expression::Number(number) => text.put_number(*number),
         Expression::Private(name) => put_name(text, names, *name),
+        Expression::Element(row, index) => {
+            put_row_name(text, names, *row);
+            text.put("[");
+            put_value_of(text, names, me, index, 1);
+            text.put("]");
+        }
         Expression::Me => text.put(me),
         Expression::Procs => text.put("procs"),
         Expression::Limit => text.put("limit"),
+        Expression::Joined(Operator::Within, first, _) => {
+            put_value_of(text, names, me, first, least);
+        }
         Expression::Joined(operator, first, second) => {
             let own = strength(*operator);
             if own > 5 {
@@ -106,7 +125,7 @@ pub fn put_value(text: &mut TextBuilder, names: &[String], value: &Expression, l
 }
 
 /// Writes an index in its brackets.
-fn put_index(text: &mut TextBuilder, names: &[String], index: &Expression) {
+pub fn put_index(text: &mut TextBuilder, names: &[String], index: &Expression) {
     text.put("[");
     put_value(text, names, index, 1);
     text.put("]");

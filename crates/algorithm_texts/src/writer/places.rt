@@ -16,7 +16,9 @@ pub fn is_entry(algorithm: &Algorithm, place: usize) -> bool {
 /// Whether a local line leads to a place, where the place after it is `next`.
 fn local_leads(least: u64, next: usize, line: &LocalLine, place: usize) -> bool {
     match line {
-        LocalLine::Assign { .. } | LocalLine::Note(_) => next == place,
+        LocalLine::Assign { .. } | LocalLine::AssignRow { .. } | LocalLine::Note(_) => {
+            next == place
+        }
         LocalLine::Goto(target) => *target == place,
         LocalLine::Branch { otherwise, .. } => next == place || *otherwise == place,
         LocalLine::First { members, after, .. } => {
@@ -66,7 +68,12 @@ fn keeps_block(line: &AlgorithmLine, place: usize, first: usize, end: usize) -> 
         LineKind::Local(LocalLine::Goto(target)) => inside || *target < first || end <= *target,
         LineKind::Local(LocalLine::Branch { otherwise, .. }) => !inside || *otherwise <= end,
         LineKind::Local(LocalLine::First { after, .. }) => !inside || *after <= end,
-        LineKind::Local(LocalLine::Assign { .. } | LocalLine::Note(_) | LocalLine::Next { .. })
+        LineKind::Local(
+            LocalLine::Assign { .. }
+            | LocalLine::AssignRow { .. }
+            | LocalLine::Note(_)
+            | LocalLine::Next { .. },
+        )
         | LineKind::Access(_)
         | LineKind::Done(_) => true,
     }

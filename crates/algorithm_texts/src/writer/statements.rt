@@ -1,11 +1,15 @@
 //! Writes what one line does.
 
-use crate::writer::operands::{put_condition, put_indexes, put_name, put_value};
+use crate::writer::operands::{
+    put_condition, put_index, put_indexes, put_name, put_row_name, put_value,
+};
 use crate::writer::text_builder::TextBuilder;
 use algorithms::algorithm::Algorithm;
 use algorithms::condition::Condition;
 use algorithms::expression::Expression;
-use algorithms::line::{AccessLine, Action, AlgorithmDeed, LineKind, LocalLine, Members, WordOf};
+use algorithms::line::{
+    AccessLine, Action, AlgorithmDeed, Elements, LineKind, LocalLine, Members, WordOf,
+};
 
 /// The word of a deed.
 fn deed_word(deed: AlgorithmDeed) -> &'static str {
@@ -144,11 +148,29 @@ fn put_members(text: &mut TextBuilder, algorithm: &Algorithm, members: &Members)
     }
 }
 
+/// Writes which values of a row are set.
+fn put_elements(text: &mut TextBuilder, algorithm: &Algorithm, row: usize, elements: &Elements) {
+    let names = algorithm.names.as_slice();
+    put_row_name(text, names, row);
+    if let Elements::At(index) = elements {
+        put_index(text, names, index);
+    }
+}
+
 /// Writes a local line, or its first words where it begins or ends a block.
 fn put_local(text: &mut TextBuilder, algorithm: &Algorithm, line: &LocalLine) {
     match line {
         LocalLine::Assign { name, value } => {
             put_set(text, algorithm, *name, " := ");
+            put_whole(text, algorithm, value);
+        }
+        LocalLine::AssignRow {
+            row,
+            elements,
+            value,
+        } => {
+            put_elements(text, algorithm, *row, elements);
+            text.put(" := ");
             put_whole(text, algorithm, value);
         }
         LocalLine::Note(deed) => put_deed_word(text, *deed),

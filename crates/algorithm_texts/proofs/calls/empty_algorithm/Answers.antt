@@ -8,11 +8,12 @@ returns-clause-ok c = record {
   least_is = refl;
   most_is = refl;
   no_constants = c.new.ensures.items;
+  no_rows = c.new-4.ensures.items;
   no_declarations = c.new-2.ensures.items;
   no_names = c.new-3.ensures.items;
   none_last = refl;
-  no_answers = c.new-4.ensures.items;
-  no_lines = c.new-5.ensures.items;
-  no_claims = c.new-6.ensures.items;
+  no_answers = c.new-5.ensures.items;
+  no_lines = c.new-6.ensures.items;
+  no_claims = c.new-7.ensures.items;
   no_entries = refl;
 }

@@ -2,6 +2,7 @@ use Rattle.std.proofs.Common.{false, map, reverse, string_bytes, ap}
 use Rattle.std.specs.Option.{option_map}
 use Rattle.algorithms.specs.declared.algorithm.NamedConstant.{NamedConstant}
 use Rattle.algorithms.specs.declared.algorithm.Declaration.{Declaration}
+use Rattle.algorithm_texts.specs.Operands.{row_of}
 use Rattle.algorithm_texts.specs.Parts.{term_of}
 use Rattle.algorithm_texts.specs.Drafts.{claim_form, line_of, extent_of, start_term}
 use Rattle.algorithm_texts.proofs.drafts.new_draft.Goals as goal
@@ -14,6 +15,7 @@ returns c = λ h e i. record {
     most = e.most_is i;
     promises = c.args.promises;
     constants = ap (map (λ (k : NamedConstant). (string_bytes k.name, term_of k.value))) e.no_constants i;
+    rows = ap (map row_of) e.no_rows i;
     bounds = ap (map (λ (d : Declaration). option_map (λ b. term_of b) d.bound)) e.no_declarations i;
     homes = ap (map (λ (d : Declaration). option_map (λ h. term_of h) d.home)) e.no_declarations i;
     entries = e.no_entries i;

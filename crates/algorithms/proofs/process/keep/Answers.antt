@@ -10,7 +10,7 @@ loop-name-preserved c = record {
 }
 
 pub returns : goal.returns
-returns c = elim (cases_lt 32 c.args.lasting) [
+returns c = elim (cases_lt 64 c.args.lasting) [
   | inl high ↦ zeros_none c.args.store.now _ c.args.lasting c.loop-name.name (search rules) high (c.loop-name.invariant.none high) c.loop-name.invariant.zeros
   | inr low ↦ zeros_all c.args.store.now _ c.args.lasting c.loop-name.name (search rules) low (omega arith) c.loop-name.invariant.zeros
 ]

@@ -6,5 +6,5 @@ use Rattle.algorithms.proofs.process.keep.Given as goal
 abbrev pub invariant-loop-name : goal.invariant-loop-name
 invariant-loop-name l = record {
   zeros : l.store ≡ paste l.initial.store l.lasting (replicate (l.name - l.lasting) 0) (l.name - l.lasting);
-  none : 32 < l.lasting → l.name ≡ l.lasting;
+  none : 64 < l.lasting → l.name ≡ l.lasting;
 }

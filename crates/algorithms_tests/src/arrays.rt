@@ -17,7 +17,7 @@ answer \n\
 Entries { lock: 0, unlock: 5, recover: None, withdraw: None }
 corner [\"v\"]
 [Declaration { name: \"grid\", extent: Table(Joined(Product, Procs, Procs), Procs), bound: None, home: None }, Declaration { name: \"line\", extent: Array(Limit), bound: None, home: None }]
-Promises { reentry: false, order: false, exit: None, recovery: None, doorway: None, progress: None }
+Promises { reentry: false, order: false, exit: None, recovery: None, doorway: None, progress: None, bounds: false }
 2 to 2 processes, 0 lasting names
 first values Some(FirstValues { starts: [None, Some(Me)] })
 ";
@@ -31,6 +31,10 @@ search with arrays\n\
 == clh 2 4 1\n--\n5407 states\n\
 == golab_ramaraju_tournament 2 4 0\n--\n1843 states\n\
 == golab_ramaraju_tournament 2 4 1\n--\n10901 states\n\
+== recoverable_clh 2 4 0\n--\n9181 states\n\
+== recoverable_clh 2 4 1\n--\n50957 states\n\
+== recoverable_mcs 2 4 0\n--\n47684 states\n\
+== dhoked_mittal 2 4 1\n--\n40 moves\n\
 == table 1 1 0\n--\nthe algorithm is not for this number of processes\n\
 == table 32 1 0\n--\nthe algorithm is not for this number of processes\n\
 == corner 2 65 0\n--\nthe algorithm is not for this number of processes\n\

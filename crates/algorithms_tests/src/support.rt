@@ -1,7 +1,9 @@
 //! What tests of several files use.
 
 use crate::sessions;
-use crate::texts::{arrays, bakeries, claims, constructs, homes, loops, others, promises, swaps};
+use crate::texts::{
+    arrays, bakeries, claims, constructs, homes, loops, others, promises, queues, rows, swaps,
+};
 use algorithm_explorer::CrashesLeft;
 use algorithm_lab::AlgorithmReplayFault;
 use algorithms::AlgorithmCall;
@@ -73,6 +75,11 @@ fn claims_named(name: &str) -> &'static [u8] {
         promises::CROSSED_FLAGS,
         promises::FAIR_TEST_AND_SET,
         promises::FREE_TEST_AND_SET,
+        queues::DHOKED_MITTAL,
+        queues::RECOVERABLE_CLH,
+        queues::RECOVERABLE_MCS,
+        rows::JAYANTI_JAYANTI_JOSHI,
+        rows::JAYANTI_JAYANTI_JOSHI_TWO_NODES,
     ] {
         if name_of(text) == name {
             return text;

@@ -8,8 +8,8 @@ use crate::reports::{
 };
 use crate::{
     arrays, bad_texts, claims, constants, costs, drawings, first_values, homes, hostile_texts,
-    hunts, loops, mean_costs, remote_references, searches, sessions, shrinks, spelling, starving,
-    step_bounds, stuck, swaps,
+    hunts, loops, mean_costs, remote_references, rows, searches, sessions, shrinks, spelling,
+    starving, step_bounds, stuck, swaps,
 };
 use algorithm_explorer::laws::{no_search_finds_the_text_out, which_states_are_one};
 use algorithm_lab::laws::{
@@ -45,11 +45,13 @@ const DECLARED: [&str; 8] = [
 ];
 
 /// The same of lines and of claims.
-const SAID: [&str; 8] = [
+const SAID: [&str; 10] = [
     claims::BAD,
     claims::GOOD,
     loops::BAD,
     loops::GOOD,
+    rows::BAD,
+    rows::GOOD,
     step_bounds::BAD,
     step_bounds::GOOD,
     swaps::BAD,
@@ -109,13 +111,14 @@ const DRAWN: [&str; 9] = [
 ];
 
 /// Searches for a schedule that goes wrong.
-const SEARCHED: [&str; 14] = [
+const SEARCHED: [&str; 15] = [
     arrays::SEARCHES,
     claims::SEARCHES,
     constants::SEARCHES,
     first_values::SEARCHES,
     homes::SEARCHES,
     loops::SEARCHES,
+    rows::SEARCHES,
     searches::BAKERIES,
     searches::FOR_THREE,
     searches::LARGER,

@@ -8,4 +8,6 @@ pub mod homes;
 pub mod loops;
 pub mod others;
 pub mod promises;
+pub mod queues;
+pub mod rows;
 pub mod swaps;

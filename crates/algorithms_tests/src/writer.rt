@@ -16,7 +16,8 @@ test_and_test_and_set ticket board counter mcs_nil named narrow seats owner turn
 bounded golab_ramaraju yang_anderson homes clh corner golab_ramaraju_tournament peterson_tournament \
 table filter stairs bounded_peterson bounded_test_and_set bounded_ticket hurried_ticket \
 instant_test_and_set mcs_exit_3 ticket_exit_1 ticket_exit_2 begun_ticket claimed_ticket kept_ticket \
-linked_mcs unlinked_mcs crossed_flags fair_test_and_set free_test_and_set";
+linked_mcs unlinked_mcs crossed_flags fair_test_and_set free_test_and_set \
+jayanti_jayanti_joshi jayanti_jayanti_joshi_two_nodes";
 
 /// A text as it is written: blocks that end in lines to which no run comes, gotos at the end of an `if`, and brackets.
 const BLOCKS: &str = "algorithm blocks for 2 to 4 processes
@@ -134,7 +135,7 @@ call unlock
 
 /// A text as it is written: what never holds, between declarations and after them, and labels that nothing but a claim names.
 const CLAIMS: &str = "algorithm claims for 2 to 8 processes
-promises exclusion, order, exit within 3, starvation freedom
+promises exclusion, order, exit within 3, starvation freedom, bounds
 shared p1
 never for p2: p1 = p2 and p2 is out
 shared tail up to procs starts procs
@@ -167,6 +168,38 @@ at11:
   done
 ";
 
+/// A text with further promises in another order than they are written in.
+const UNORDERED: &str = "algorithm unordered for 2 to 4 processes
+promises exclusion, reentry, order, bounds, doorway within 3, starvation freedom, recovery within 2, exit within 1
+shared x
+
+call lock
+  x := 1 this is begin
+  x := 2 this is ready
+  x := 3 this is enter
+  done
+
+call unlock
+  x := 0 this is leave
+  done
+";
+
+/// The same as it is written.
+const ORDERED: &str = "algorithm unordered for 2 to 4 processes
+promises exclusion, reentry, order, exit within 1, recovery within 2, doorway within 3, starvation freedom, bounds
+shared x
+
+call lock
+  x := 1 this is begin
+  x := 2 this is ready
+  x := 3 this is enter
+  done
+
+call unlock
+  x := 0 this is leave
+  done
+";
+
 /// What is written of a text that is read. It is read again as the same algorithm.
 fn written_of<R: Abort>(rt: &R, alloc: Global, text: &[u8]) -> Result<String, Fail> {
     let read = read_algorithm(alloc, text)?;
@@ -190,6 +223,14 @@ fn texts_are_written_and_read_again(rt: HostRuntime) -> Result<(), Fail> {
         let written = written_of(&rt, rt.alloc(), text.as_bytes())?;
         assert!(rt; written.as_str() == text, "{written}");
     }
+    Ok(())
+}
+
+/// Further promises are read in any order, and written in one.
+#[test]
+fn promises_are_written_in_one_order(rt: HostRuntime) -> Result<(), Fail> {
+    let written = written_of(&rt, rt.alloc(), UNORDERED.as_bytes())?;
+    assert!(rt; written.as_str() == ORDERED, "{written}");
     Ok(())
 }
 

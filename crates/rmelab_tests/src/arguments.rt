@@ -1,4 +1,4 @@
 //! The words of command lines, and the help that they ask for. Each names public functions of `cli`.
 
-mod helps;
+pub mod helps;
 mod words;

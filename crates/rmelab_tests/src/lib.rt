@@ -1,6 +1,6 @@
 //! Tests of the program: whole invocations over a folder in memory; and each request for memory is refused in turn.
 //!
-//! Main items: `program`, `replays`, `searches`.
+//! Main items: `replays`, `scripts`, `searches`.
 #![tactic(auto)]
 
 #[cfg(test)]
@@ -11,6 +11,8 @@ mod memory;
 mod program;
 #[cfg(test)]
 mod replays;
+#[cfg(test)]
+mod scripts;
 #[cfg(test)]
 mod searches;
 #[cfg(test)]

@@ -1,6 +1,7 @@
-//! Each request for memory of replays, traces and labs is refused in turn. Each names public functions of `schedule` or
-//! `robust`.
+//! Each request for memory of replays, traces, labs and whole invocations of the program is refused in turn. Each names public
+//! functions of `schedule`, `robust` or `commands`.
 
+mod invocations;
 mod labs;
-mod replays;
-mod traces;
+mod searches;
+mod texts;

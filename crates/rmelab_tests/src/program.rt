@@ -1,8 +1,7 @@
-//! Drawings, explanations and senders, and words that are refused, as whole invocations of the program; and each request for
-//! memory is refused in turn. Each names public functions of `commands` and of the crates below it.
+//! Drawings, explanations and senders, and words that are refused, as whole invocations of the program. Each names public functions
+//! of `commands` and of the crates below it.
 
-mod drawings;
-mod explains;
-mod invocations;
-mod memory;
-mod senders;
+pub mod drawings;
+pub mod explains;
+pub mod invocations;
+pub mod senders;

@@ -1,16 +1,15 @@
-//! Hunts, searches, shrunk schedules, and each command on an algorithm as a text, as whole invocations of the program; and each
-//! request for memory is refused in turn. Each names public functions of `commands` and of the crates below it.
+//! Hunts, searches, shrunk schedules, and each command on an algorithm as a text, as whole invocations of the program. Each
+//! names public functions of `commands` and of the crates below it.
 
-mod algorithm_costs;
-mod algorithm_explores;
-mod algorithm_exports;
-mod algorithm_faults;
-mod algorithm_runs;
-mod explores;
-mod hunts;
+pub mod algorithm_costs;
+pub mod algorithm_explores;
+pub mod algorithm_exports;
+pub mod algorithm_faults;
+pub mod algorithm_runs;
+pub mod explores;
+pub mod hunts;
 mod jobs;
-mod memory;
-mod named_texts;
-mod shrinks;
-mod states;
-mod watched;
+pub mod named_texts;
+pub mod shrinks;
+pub mod states;
+pub mod watched;

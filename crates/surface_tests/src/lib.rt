@@ -6,9 +6,9 @@
 
 pub mod of_crashlab;
 pub mod of_judge;
+pub mod of_laws;
 pub mod of_one_lock;
 pub mod of_program;
-pub mod of_progress;
 pub mod of_redomail;
 pub mod of_rmecore;
 pub mod of_rmeworld;

@@ -14,31 +14,30 @@ use schedule::{OutOfMemory, ReplayFault, Schedule};
 use std::alloc::Global;
 use std::thread::Threads;
 
-pub fn ask<P: CrashPlan>(plan: &mut P) -> bool {
-    plan.falls()
+pub fn ask<P: CrashPlan>(plan: &mut P, askings: u64) -> (bool, bool) {
+    let falls: bool = plan.falls();
+    plan.count_askings(askings);
+    (falls, plan.never_crashes())
 }
 
 /// The plans of `crashlab` are those of `crash_plans`.
-pub fn ask_any<P: crash_plans::CrashPlan>(plan: &mut P) -> bool {
-    ask(plan)
-}
-
-pub fn count<P: CrashPlan>(plan: &mut P, askings: u64) -> bool {
-    plan.count_askings(askings);
-    plan.never_crashes()
-}
-
-pub fn ask_each(k: u64, m: u64, seed: u64, per_mille: u64) -> [bool; 4] {
+pub fn ask_each<P: crash_plans::CrashPlan>(
+    plan: &mut P,
+    (k, m): (u64, u64),
+    seed: u64,
+    per_mille: u64,
+) -> [(bool, bool); 5] {
     [
-        ask(&mut Never::new()),
-        ask(&mut At::new(k)),
-        ask(&mut Both::new(k, m)),
-        ask(&mut Seeded::new(seed, per_mille)),
+        ask(plan, k),
+        ask(&mut Never::new(), 1),
+        ask(&mut At::new(k), 1),
+        ask(&mut Both::new(k, m), 1),
+        ask(&mut Seeded::new(seed, per_mille), 1),
     ]
 }
 
-pub fn is_right(variant: Variant) -> bool {
-    match variant {
+pub fn in_variants(variant: Variant, fault: HuntFault) -> (bool, bool) {
+    let is_right = match variant {
         Variant::Right => true,
         Variant::NoLook
         | Variant::NoTies
@@ -46,7 +45,12 @@ pub fn is_right(variant: Variant) -> bool {
         | Variant::ExitOnCrash
         | Variant::CountUp
         | Variant::LastSkipped => false,
-    }
+    };
+    let is_of_memory = match fault {
+        HuntFault::OutOfMemory => true,
+        HuntFault::BadRounds | HuntFault::BadSteps => false,
+    };
+    (is_right, is_of_memory)
 }
 
 pub fn new_world(
@@ -60,85 +64,49 @@ pub fn new_world(
     VariantWorld::new(alloc, variant, procs, limit, cap, width)
 }
 
-pub fn layout(world: &VariantWorld) -> Layout {
-    world.layout()
-}
-
 fn has_an_image<M: Machine>(machine: &M) -> bool {
     machine.image().is_ok()
 }
 
-pub fn is_a_machine(world: &VariantWorld) -> bool {
-    has_an_image(world)
+pub fn is_a_machine(world: &VariantWorld) -> (Layout, bool) {
+    (world.layout(), has_an_image(world))
 }
 
-pub fn hunted(
-    alloc: Global,
-    variant: Variant,
-    seed: u64,
-    rounds: u64,
-    steps: u64,
-) -> Result<Option<Schedule>, HuntFault> {
-    hunt(alloc, variant, seed, rounds, steps)
-}
-
-pub fn hunted_watched<W: Watch>(
-    alloc: Global,
-    variant: Variant,
-    seed: u64,
-    rounds: u64,
-    steps: u64,
-    watch: &mut W,
-) -> Result<Option<Schedule>, HuntFault> {
-    hunt_watched(alloc, variant, seed, rounds, steps, watch)
-}
-
-pub fn hunted_in_parallel<R: Threads + Sync>(
+/// By one thread, by several, and each with its progress watched.
+pub fn hunted<R: Threads + Sync, W: Watch>(
     rt: &R,
     alloc: Global,
     jobs: u64,
     variant: Variant,
-    seed: u64,
-    rounds: u64,
-    steps: u64,
-) -> Result<Option<Schedule>, HuntFault> {
-    hunt_in_parallel(rt, alloc, jobs, variant, seed, rounds, steps)
-}
-
-pub fn hunted_in_parallel_watched<R: Threads + Sync, W: Watch>(
-    rt: &R,
-    alloc: Global,
-    jobs: u64,
-    variant: Variant,
-    seed: u64,
-    rounds: u64,
-    steps: u64,
+    (seed, rounds, steps): (u64, u64, u64),
     watch: &mut W,
-) -> Result<Option<Schedule>, HuntFault> {
-    hunt_in_parallel_watched(rt, alloc, jobs, variant, seed, rounds, steps, watch)
-}
-
-pub fn is_of_memory(fault: HuntFault) -> bool {
-    match fault {
-        HuntFault::OutOfMemory => true,
-        HuntFault::BadRounds | HuntFault::BadSteps => false,
-    }
+) -> (
+    Result<Option<Schedule>, HuntFault>,
+    Result<Option<Schedule>, HuntFault>,
+    Result<Option<Schedule>, HuntFault>,
+    Result<Option<Schedule>, HuntFault>,
+) {
+    (
+        hunt(alloc, variant, seed, rounds, steps),
+        hunt_watched(alloc, variant, seed, rounds, steps, watch),
+        hunt_in_parallel(rt, alloc, jobs, variant, seed, rounds, steps),
+        hunt_in_parallel_watched(rt, alloc, jobs, variant, seed, rounds, steps, watch),
+    )
 }
 
 pub fn minimized(
     alloc: Global,
     variant: Variant,
     schedule: &Schedule,
-) -> Result<Option<Schedule>, ReplayFault> {
-    shrink(alloc, variant, schedule)
-}
-
-pub fn found_minimized(
-    alloc: Global,
-    variant: Variant,
     found: &Schedule,
-) -> Result<Schedule, OutOfMemory>
+) -> (
+    Result<Option<Schedule>, ReplayFault>,
+    Result<Schedule, OutOfMemory>,
+)
     requires { IsFound variant found.now }
 {
-    shrink_found(alloc, variant, found)
+    (
+        shrink(alloc, variant, schedule),
+        shrink_found(alloc, variant, found),
+    )
 }

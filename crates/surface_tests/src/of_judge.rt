@@ -1,32 +1,29 @@
 //! The items of `judge`.
 
-use judge::{Ahead, Deed, Fault, Judge, Messages, Phase, Phases, Start, laws};
+use judge::{Ahead, Deed, Fault, Judge, Messages, Phase, Phases, Start};
 use redomail::Message;
 use rmecore::{Body, Refusal};
 use std::alloc::Global;
 
-pub fn new_judge(alloc: Global, procs: u64, cap: u64) -> Result<Judge, Refusal> {
-    Judge::new(alloc, procs, cap)
+pub fn new_judge(
+    alloc: Global,
+    procs: u64,
+    cap: u64,
+    start: &Start,
+) -> (Result<Judge, Refusal>, Result<Judge, Refusal>) {
+    (
+        Judge::new(alloc, procs, cap),
+        Judge::from_start(alloc, start),
+    )
 }
 
-pub fn judge_from(alloc: Global, start: &Start) -> Result<Judge, Refusal> {
-    Judge::from_start(alloc, start)
+pub fn fed(judge: &mut Judge, deed: Deed) -> (Result<(), Fault>, Result<(), Fault>, u64) {
+    (judge.feed(deed), judge.feed_from(&deed), judge.procs())
 }
 
-pub fn feed(judge: &mut Judge, deed: Deed) -> Result<(), Fault> {
-    judge.feed(deed)
-}
-
-pub fn feed_from(judge: &mut Judge, deed: &Deed) -> Result<(), Fault> {
-    judge.feed_from(deed)
-}
-
-pub fn procs(judge: &Judge) -> u64 {
-    judge.procs()
-}
-
-pub fn body_in(deed: Deed) -> Option<Body> {
-    match deed {
+/// The faults have the numbers that docs/use/errors.md has.
+pub fn in_variants(deed: Deed, phase: Phase, fault: Fault) -> (Option<Body>, bool, u64) {
+    let body = match deed {
         Deed::Commit { p: _, seq: _, v }
         | Deed::Show {
             p: _,
@@ -35,12 +32,12 @@ pub fn body_in(deed: Deed) -> Option<Body> {
             v,
         } => Some(v),
         Deed::Outer(_) | Deed::Close { p: _ } | Deed::Ruin { p: _ } => None,
-    }
-}
-
-/// The faults and their numbers, as docs/use/errors.md has them.
-pub fn number_specified(fault: Fault) -> u64 {
-    match fault {
+    };
+    let is_in = match phase {
+        Phase::Inside | Phase::DeadIn => true,
+        Phase::Out | Phase::Door | Phase::Ready => false,
+    };
+    let number = match fault {
         Fault::OutOfPlace => 1,
         Fault::TwoInside => 2,
         Fault::NotReentered => 3,
@@ -52,14 +49,8 @@ pub fn number_specified(fault: Fault) -> u64 {
         Fault::LongRecovery => 9,
         Fault::LongDoorway => 10,
         Fault::BrokenClaim => 11,
-    }
-}
-
-pub fn is_in(phase: Phase) -> bool {
-    match phase {
-        Phase::Inside | Phase::DeadIn => true,
-        Phase::Out | Phase::Door | Phase::Ready => false,
-    }
+    };
+    (body, is_in, number)
 }
 
 /// A start, made of lists that give their `Vec` back.
@@ -85,23 +76,21 @@ pub fn new_start(
     }
 }
 
-pub fn lists_of_start(start: &Start) -> (&[Phase], &[Vec<u64>], &[Message]) {
-    (
-        start.phases.as_slice(),
-        start.ahead.as_slice(),
-        start.shown.as_slice(),
-    )
-}
-
-pub fn taken_back(
+pub fn lists_of_start(
+    start: &Start,
     phases: Phases,
     ahead: Ahead,
     shown: Messages,
-) -> (Vec<Phase>, Vec<Vec<u64>>, Vec<Message>) {
-    (phases.into_vec(), ahead.into_vec(), shown.into_vec())
-}
-
-pub fn cite_the_laws() {
-    laws::legal_histories_are_plain();
-    laws::core_runs_are_legal();
+) -> (
+    (&[Phase], &[Vec<u64>], &[Message]),
+    (Vec<Phase>, Vec<Vec<u64>>, Vec<Message>),
+) {
+    (
+        (
+            start.phases.as_slice(),
+            start.ahead.as_slice(),
+            start.shown.as_slice(),
+        ),
+        (phases.into_vec(), ahead.into_vec(), shown.into_vec()),
+    )
 }

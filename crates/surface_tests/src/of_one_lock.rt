@@ -29,106 +29,64 @@ pub fn new_members<L: Ledger, R>(
     Arena::new(rt, alloc, procs, limit, cap, width, blank)
 }
 
-pub fn lock_within<L: Ledger, R: Wait, P: CrashPlan>(
+pub fn enter_and_leave<L: Ledger, R: Wait, P: CrashPlan>(
     member: &mut Member<L>,
     rt: &R,
     plan: &mut P,
     turns: u64,
-) -> Result<Entry, LockFault> {
-    member.lock_within(rt, plan, turns)
+) -> (
+    Result<Entry, LockFault>,
+    Result<Found, LockFault>,
+    Result<bool, LockFault>,
+    Result<(), LockFault>,
+) {
+    (
+        member.lock_within(rt, plan, turns),
+        member.recover(rt, plan),
+        member.consistent(rt, plan),
+        member.unlock(rt, plan),
+    )
 }
 
-pub fn lock<L: Ledger, R: Wait, P: CrashPlan>(
+pub fn wait<L: Ledger, R: Wait, P: CrashPlan>(
     member: &mut Member<L>,
     rt: &R,
     plan: &mut P,
-) -> Result<Entry, LockFault> {
-    member.lock(rt, plan)
-}
-
-pub fn recover<L: Ledger, R: Wait, P: CrashPlan>(
-    member: &mut Member<L>,
-    rt: &R,
-    plan: &mut P,
-) -> Result<Found, LockFault> {
-    member.recover(rt, plan)
-}
-
-pub fn consistent<L: Ledger, R: Wait, P: CrashPlan>(
-    member: &mut Member<L>,
-    rt: &R,
-    plan: &mut P,
-) -> Result<bool, LockFault> {
-    member.consistent(rt, plan)
-}
-
-pub fn unlock<L: Ledger, R: Wait, P: CrashPlan>(
-    member: &mut Member<L>,
-    rt: &R,
-    plan: &mut P,
-) -> Result<(), LockFault> {
-    member.unlock(rt, plan)
-}
-
-pub fn get<L: Ledger, R: Wait, P: CrashPlan>(
-    member: &mut Member<L>,
-    rt: &R,
-    i: u64,
-    plan: &mut P,
-) -> Result<u64, LockFault> {
-    member.get(rt, i, plan)
-}
-
-pub fn put<L: Ledger, R: Wait, P: CrashPlan>(
-    member: &mut Member<L>,
-    rt: &R,
-    i: u64,
-    v: u64,
-    plan: &mut P,
-) -> Result<(), LockFault> {
-    member.put(rt, i, v, plan)
-}
-
-pub fn append_within<L: Ledger, R: Wait, P: CrashPlan>(
-    member: &mut Member<L>,
-    rt: &R,
     seq: u64,
     value: Body,
+) -> (
+    Result<Entry, LockFault>,
+    Result<Reply, LockFault>,
+    Result<Reply, LockFault>,
+    u64,
+) {
+    (
+        member.lock(rt, plan),
+        member.append(rt, seq, value, plan),
+        member.close(rt, plan),
+        member.steps(),
+    )
+}
+
+pub fn board_and_mail<L: Ledger, R: Wait, P: CrashPlan>(
+    member: &mut Member<L>,
+    rt: &R,
     plan: &mut P,
+    (i, v): (u64, u64),
+    (seq, value): (u64, Body),
     turns: u64,
-) -> Result<Reply, LockFault> {
-    member.append_within(rt, seq, value, plan, turns)
-}
-
-pub fn append<L: Ledger, R: Wait, P: CrashPlan>(
-    member: &mut Member<L>,
-    rt: &R,
-    seq: u64,
-    value: Body,
-    plan: &mut P,
-) -> Result<Reply, LockFault> {
-    member.append(rt, seq, value, plan)
-}
-
-pub fn close_within<L: Ledger, R: Wait, P: CrashPlan>(
-    member: &mut Member<L>,
-    rt: &R,
-    plan: &mut P,
-    turns: u64,
-) -> Result<Reply, LockFault> {
-    member.close_within(rt, plan, turns)
-}
-
-pub fn close<L: Ledger, R: Wait, P: CrashPlan>(
-    member: &mut Member<L>,
-    rt: &R,
-    plan: &mut P,
-) -> Result<Reply, LockFault> {
-    member.close(rt, plan)
-}
-
-pub fn steps<L: Ledger>(member: &Member<L>) -> u64 {
-    member.steps()
+) -> (
+    Result<u64, LockFault>,
+    Result<(), LockFault>,
+    Result<Reply, LockFault>,
+    Result<Reply, LockFault>,
+) {
+    (
+        member.get(rt, i, plan),
+        member.put(rt, i, v, plan),
+        member.append_within(rt, seq, value, plan, turns),
+        member.close_within(rt, plan, turns),
+    )
 }
 
 pub fn gathered<L: Ledger, S: Sizes, R: Wait>(

@@ -15,24 +15,27 @@ use std::process::ExitCode;
 use std::sync::Wait;
 use std::thread::Threads;
 
-pub fn read(alloc: Global, words: &[String]) -> Result<Command, WordsFault> {
-    read_words(alloc, words)
-}
-
-pub fn carry_out<T: Threads + Wait + Sync, R: Source, W: Sink, E: Sink>(
-    rt: &T,
+pub fn read(
     alloc: Global,
-    read: &Command,
-    image: Option<&[u8]>,
-    r: &mut R,
-    w: &mut W,
-    e: &mut E,
-) -> Ending {
-    command(rt, alloc, read, image, r, w, e)
+    words: &[String],
+    name: &str,
+    entry: DictionaryEntry,
+) -> (
+    Result<Command, WordsFault>,
+    Option<DictionaryEntry>,
+    usize,
+    Meaning,
+) {
+    (
+        read_words(alloc, words),
+        dictionary_entry_named(name),
+        ENTRIES.len(),
+        meaning_of(entry),
+    )
 }
 
-/// The same, with its progress on a screen.
-pub fn carry_out_shown<T: Threads + Wait + Sync, S: Screen, R: Source, W: Sink, E: Sink>(
+/// Without a screen, and with progress on one.
+pub fn carry_out<T: Threads + Wait + Sync, S: Screen, R: Source, W: Sink, E: Sink>(
     rt: &T,
     alloc: Global,
     read: &Command,
@@ -41,26 +44,27 @@ pub fn carry_out_shown<T: Threads + Wait + Sync, S: Screen, R: Source, W: Sink, 
     r: &mut R,
     w: &mut W,
     e: &mut E,
-) -> Ending {
-    command_shown(rt, alloc, read, image, screen, r, w, e)
+) -> (Ending, Ending) {
+    (
+        command(rt, alloc, read, image, r, w, e),
+        command_shown(rt, alloc, read, image, screen, r, w, e),
+    )
 }
 
-pub fn fields_of_ending(ending: Ending) -> (u8, Option<Vec<u8>>) {
-    (ending.status, ending.save)
-}
-
-pub fn is_of_clap(fault: &WordsFault) -> bool {
-    match fault {
+pub fn in_variants(
+    fault: &WordsFault,
+    read: &Command,
+    entry: DictionaryEntry,
+    ending: Ending,
+) -> (bool, bool, Option<Rule>, (u8, Option<Vec<u8>>)) {
+    let is_of_clap = match fault {
         WordsFault::Help { text: _ } | WordsFault::Refused { text: _ } => true,
         WordsFault::BadVariant
         | WordsFault::BadSize
         | WordsFault::Unreadable
         | WordsFault::OutOfMemory => false,
-    }
-}
-
-pub fn runs_threads(read: &Command) -> bool {
-    match read {
+    };
+    let runs_threads = match read {
         Command::Run(_) | Command::Hunt(_) | Command::Explore(_) => true,
         Command::Replay(_)
         | Command::ReplayAlgorithm(_)
@@ -79,31 +83,34 @@ pub fn runs_threads(read: &Command) -> bool {
         | Command::Step(_)
         | Command::StepAlgorithm(_)
         | Command::Explain(_) => false,
-    }
-}
-
-pub fn obeyed<T: Threads + Wait + Sync, F: Folder, R: Source, W: Sink, E: Sink>(
-    rt: &T,
-    alloc: Global,
-    read: &Command,
-    folder: &mut F,
-    r: &mut R,
-    w: &mut W,
-    e: &mut E,
-) -> u8 {
-    obey(rt, alloc, read, folder, &mut NoScreen, r, w, e)
+    };
+    let rule = match entry {
+        DictionaryEntry::Rule(rule) => Some(rule),
+        DictionaryEntry::Fault(_)
+        | DictionaryEntry::Refused(_)
+        | DictionaryEntry::AlgorithmRefused(_)
+        | DictionaryEntry::Against(_)
+        | DictionaryEntry::Answer(_)
+        | DictionaryEntry::Step(_)
+        | DictionaryEntry::AlgorithmFault(_) => None,
+    };
+    (is_of_clap, runs_threads, rule, (ending.status, ending.save))
 }
 
 pub fn run<T: Threads + Wait + Sync, F: Folder, R: Source, W: Sink, E: Sink>(
     rt: &T,
     alloc: Global,
+    read: &Command,
     words: Vec<String>,
     folder: &mut F,
     r: &mut R,
     w: &mut W,
     e: &mut E,
-) -> u8 {
-    program(rt, alloc, Ok(words), folder, &mut NoScreen, r, w, e)
+) -> (u8, u8) {
+    (
+        obey(rt, alloc, read, folder, &mut NoScreen, r, w, e),
+        program(rt, alloc, Ok(words), folder, &mut NoScreen, r, w, e),
+    )
 }
 
 /// What `main` of the program calls.
@@ -120,35 +127,9 @@ pub fn run_devices<T: Threads + Wait + Sync, F: Folder, S: Screen, W: Write + Dr
     run_program(rt, alloc, words, folder, screen, input, output, errors)
 }
 
-pub fn entry_named(name: &str) -> Option<DictionaryEntry> {
-    dictionary_entry_named(name)
-}
-
-pub fn rule_in(entry: DictionaryEntry) -> Option<Rule> {
-    match entry {
-        DictionaryEntry::Rule(rule) => Some(rule),
-        DictionaryEntry::Fault(_)
-        | DictionaryEntry::Refused(_)
-        | DictionaryEntry::AlgorithmRefused(_)
-        | DictionaryEntry::Against(_)
-        | DictionaryEntry::Answer(_)
-        | DictionaryEntry::Step(_)
-        | DictionaryEntry::AlgorithmFault(_) => None,
-    }
-}
-
-pub fn explained(entry: DictionaryEntry) -> Meaning {
-    meaning_of(entry)
-}
-
-pub fn write_meaning<W: Sink>(entry: DictionaryEntry, w: &mut W) -> Result<(), Failed> {
-    tell_dictionary_entry(entry, w)
-}
-
-pub fn write_names<W: Sink>(w: &mut W) -> Result<(), Failed> {
-    tell_all_names(w)
-}
-
-pub fn how_many_entries() -> usize {
-    ENTRIES.len()
+pub fn write_meaning<W: Sink>(
+    entry: DictionaryEntry,
+    w: &mut W,
+) -> (Result<(), Failed>, Result<(), Failed>) {
+    (tell_dictionary_entry(entry, w), tell_all_names(w))
 }

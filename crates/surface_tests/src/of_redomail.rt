@@ -1,44 +1,40 @@
 //! The items of `redomail`.
 
-use redomail::{Cells, Job, Layout, Message, Next, Reply, Stop, Task, content, laws, run_task};
+use redomail::{Cells, Job, Layout, Message, Next, Reply, Stop, Task, content, run_task};
 use rmecore::{Body, Refusal};
 use std::alloc::Global;
 
-pub fn new_job(layout: Layout, sender: u64, task: Task) -> Result<Job, Refusal> {
-    Job::new(layout, sender, task)
+pub fn new_job(
+    alloc: Global,
+    layout: Layout,
+    sender: u64,
+    task: Task,
+    words: &[u64],
+) -> (Result<Job, Refusal>, Result<Vec<Message>, Refusal>) {
+    (
+        Job::new(layout, sender, task),
+        content(alloc, layout, words),
+    )
 }
 
-pub fn next(job: &Job) -> Next {
-    job.next()
-}
-
-pub fn feed(job: &mut Job, value: u64) {
+pub fn fed(job: &mut Job, value: u64) -> (Next, Layout, u64, Option<Reply>) {
     job.feed(value);
+    (job.next(), job.layout(), job.sender(), job.reply())
 }
 
-pub fn fields_of_job(job: &Job) -> (Layout, u64, Option<Reply>) {
-    (job.layout(), job.sender(), job.reply())
+pub fn run<C: Cells>(
+    cells: &mut C,
+    job: Job,
+    i: u64,
+    v: u64,
+) -> (Result<Reply, Stop>, Result<u64, Stop>, Result<(), Stop>) {
+    (run_task(cells, job), cells.get(i), cells.put(i, v))
 }
 
-pub fn run<C: Cells>(cells: &mut C, job: Job) -> Result<Reply, Stop> {
-    run_task(cells, job)
-}
-
-pub fn get<C: Cells>(cells: &mut C, i: u64) -> Result<u64, Stop> {
-    cells.get(i)
-}
-
-pub fn put<C: Cells>(cells: &mut C, i: u64, v: u64) -> Result<(), Stop> {
-    cells.put(i, v)
-}
-
-pub fn content_of(alloc: Global, layout: Layout, words: &[u64]) -> Result<Vec<Message>, Refusal> {
-    content(alloc, layout, words)
-}
-
-pub fn fields_of_layout(layout: Layout) -> (u64, u64, u64) {
+pub fn fields(layout: Layout, message: Message) -> ((u64, u64, u64), (u64, u64, Body)) {
     let Layout { procs, cap, width } = layout;
-    (procs, cap, width)
+    let Message { sender, seq, value } = message;
+    ((procs, cap, width), (sender, seq, value))
 }
 
 pub fn indexes(layout: Layout) -> Option<(u64, u64, u64, u64)> {
@@ -53,13 +49,12 @@ pub fn indexes(layout: Layout) -> Option<(u64, u64, u64, u64)> {
     ))
 }
 
-pub fn fields_of_message(message: Message) -> (u64, u64, Body) {
-    let Message { sender, seq, value } = message;
-    (sender, seq, value)
-}
-
-pub fn value_of_task(task: Task) -> Option<Body> {
-    match task {
+pub fn in_variants(
+    task: Task,
+    next: Next,
+    reply: Reply,
+) -> (Option<Body>, Option<Reply>, Option<bool>) {
+    let value = match task {
         Task::Append { seq: _, value } => Some(value),
         Task::Close
         | Task::Repair
@@ -67,18 +62,12 @@ pub fn value_of_task(task: Task) -> Option<Body> {
         | Task::BoardPut(_, _)
         | Task::Ruin
         | Task::Check => None,
-    }
-}
-
-pub fn reply_in(next: Next) -> Option<Reply> {
-    match next {
+    };
+    let done = match next {
         Next::Get(_) | Next::Put(_, _) => None,
         Next::Done(reply) => Some(reply),
-    }
-}
-
-pub fn flag_of_reply(reply: Reply) -> Option<bool> {
-    match reply {
+    };
+    let flag = match reply {
         Reply::Mended(flag) | Reply::Ruined(flag) => Some(flag),
         Reply::Word(_)
         | Reply::Stored
@@ -89,10 +78,6 @@ pub fn flag_of_reply(reply: Reply) -> Option<bool> {
         | Reply::ClosedNow
         | Reply::AlreadyClosed
         | Reply::Done => None,
-    }
-}
-
-pub fn cite_the_laws() {
-    laws::tasks_are_safe();
-    laws::entries_stand();
+    };
+    (value, done, flag)
 }

@@ -3,42 +3,54 @@
 ghost use Rattle.std.specs.Prelude.{◌≡◌};
 ghost use Rattle.rmecore.specs.Refused.{number_of};
 
-use rmecore::{Body, Core, CoreDone, Found, Happened, Kind, Outer, Own, Refusal, Word, laws};
+use rmecore::{Body, Core, CoreDone, Found, Happened, Kind, Outer, Own, Refusal, Word};
 use std::alloc::Global;
 
-pub fn new_core(alloc: Global, procs: u64, limit: u64) -> Result<Core, Refusal> {
-    Core::new(alloc, procs, limit)
+pub fn new(
+    alloc: Global,
+    procs: u64,
+    limit: u64,
+    words: &[u64],
+) -> (Result<Core, Refusal>, Result<Body, Refusal>) {
+    (Core::new(alloc, procs, limit), Body::new(words))
 }
 
-pub fn start_calls(core: &mut Core, p: u64) -> Result<(), Refusal> {
-    core.start_lock(p)?;
-    core.start_recover(p)?;
-    core.start_unlock(p)?;
-    core.start_withdraw(p)
+pub fn moves(
+    core: &mut Core,
+    p: u64,
+) -> (
+    [Result<(), Refusal>; 4],
+    Result<Happened, Refusal>,
+    Result<Outer, Refusal>,
+) {
+    let starts = [
+        core.start_lock(p),
+        core.start_recover(p),
+        core.start_unlock(p),
+        core.start_withdraw(p),
+    ];
+    (starts, core.step(p), core.crash(p))
 }
 
-pub fn step(core: &mut Core, p: u64) -> Result<Happened, Refusal> {
-    core.step(p)
+pub fn last_call(
+    core: &Core,
+    p: u64,
+) -> (
+    Result<Own, Refusal>,
+    Result<u64, Refusal>,
+    Result<u64, Refusal>,
+    Result<Own, Refusal>,
+) {
+    (core.words(p), core.steps(p), core.blocked(p), core.began(p))
 }
 
-pub fn crash(core: &mut Core, p: u64) -> Result<Outer, Refusal> {
-    core.crash(p)
-}
-
-pub fn words(core: &Core, p: u64) -> Result<Own, Refusal> {
-    core.words(p)
-}
-
-pub fn last_call(core: &Core, p: u64) -> Result<(u64, u64, Own), Refusal> {
-    let steps: u64 = core.steps(p)?;
-    let blocked: u64 = core.blocked(p)?;
-    let began: Own = core.began(p)?;
-    Ok((steps, blocked, began))
-}
-
-pub fn fields_of_happened(
+pub fn fields(
     happened: Happened,
-) -> (Kind, Word, u64, Option<Outer>, Option<CoreDone>) {
+    own: Own,
+) -> (
+    (Kind, Word, u64, Option<Outer>, Option<CoreDone>),
+    (u64, u64, u64),
+) {
     let Happened {
         kind,
         word,
@@ -46,42 +58,34 @@ pub fn fields_of_happened(
         outer,
         done,
     } = happened;
-    (kind, word, value, outer, done)
-}
-
-pub fn fields_of_own(own: Own) -> (u64, u64, u64) {
     let Own {
         choosing,
         number,
         inside,
     } = own;
-    (choosing, number, inside)
+    ((kind, word, value, outer, done), (choosing, number, inside))
 }
 
-pub fn index_of_word(word: Word) -> u64 {
-    match word {
+pub fn in_variants(
+    word: Word,
+    done: CoreDone,
+    found: Found,
+    outer: Outer,
+) -> (u64, Option<Found>, bool, u64) {
+    let index = match word {
         Word::Choosing(p) | Word::Number(p) | Word::Inside(p) => p,
         Word::Data(i) => i,
-    }
-}
-
-pub fn found_by(done: CoreDone) -> Option<Found> {
-    match done {
+    };
+    let found_by = match done {
         CoreDone::Found(found) => Some(found),
         CoreDone::In | CoreDone::InAgain | CoreDone::Spent | CoreDone::Out | CoreDone::Withdrawn =>
             None,
-    }
-}
-
-pub fn was_under_way(found: Found) -> bool {
-    match found {
+    };
+    let was_under_way = match found {
         Found::Idle | Found::Left => false,
         Found::Doorway | Found::Waiting | Found::Inside => true,
-    }
-}
-
-pub fn process_of(outer: Outer) -> u64 {
-    match outer {
+    };
+    let process = match outer {
         Outer::Begin(p)
         | Outer::Ready(p)
         | Outer::Enter(p)
@@ -89,7 +93,8 @@ pub fn process_of(outer: Outer) -> u64 {
         | Outer::Reenter(p)
         | Outer::Leave(p)
         | Outer::Quit(p) => p,
-    }
+    };
+    (index, found_by, was_under_way, process)
 }
 
 /// The refusals and their numbers, as docs/use/errors.md has them. `number` answers the same.
@@ -120,22 +125,6 @@ pub fn number(refusal: Refusal) -> Option<u64> {
     refusal.number()
 }
 
-pub fn new_body(words: &[u64]) -> Result<Body, Refusal> {
-    Body::new(words)
-}
-
-pub fn width(body: Body) -> u64 {
-    body.width()
-}
-
-pub fn word(body: Body, j: u64) -> Result<u64, Refusal> {
-    body.word(j)
-}
-
-pub fn all_words(body: &Body) -> &[u64] {
-    body.as_slice()
-}
-
-pub fn cite_the_laws() {
-    laws::every_process_can_enter();
+pub fn of_body(body: &Body, j: u64) -> (u64, Result<u64, Refusal>, &[u64]) {
+    (body.width(), body.word(j), body.as_slice())
 }

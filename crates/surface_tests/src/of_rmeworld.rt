@@ -4,8 +4,8 @@ use judge::{Deed, Start};
 use redomail::Reply;
 use rmecore::{Found, Happened, Own, Refusal};
 use rmeworld::{
-    Answer, Call, DataWords, Image, Machine, Owns, Stepped, World, first_rule, image, laws,
-    read_image, start_of, widen, write_image,
+    Answer, Call, DataWords, Image, Machine, Owns, Stepped, World, first_rule, read_image,
+    start_of, widen, write_image,
 };
 use std::alloc::Global;
 
@@ -15,64 +15,81 @@ pub fn new_world(
     limit: u64,
     cap: u64,
     width: u64,
-) -> Result<World, Refusal> {
-    World::new(alloc, procs, limit, cap, width)
+    image: &Image,
+) -> (Result<World, Refusal>, Result<World, Refusal>) {
+    (
+        World::new(alloc, procs, limit, cap, width),
+        World::from_image(alloc, image),
+    )
 }
 
-pub fn world_from(alloc: Global, image: &Image) -> Result<World, Refusal> {
-    World::from_image(alloc, image)
+pub fn moves(
+    world: &mut World,
+    p: u64,
+    call: Call,
+) -> (
+    Result<(), Refusal>,
+    Result<Stepped, Refusal>,
+    Result<Deed, Refusal>,
+) {
+    (world.start(p, call), world.advance(p), world.crash(p))
 }
 
-pub fn start(world: &mut World, p: u64, call: Call) -> Result<(), Refusal> {
-    world.start(p, call)
+pub fn last_call(
+    world: &World,
+    p: u64,
+) -> (
+    &[Deed],
+    Result<Image, Refusal>,
+    Result<u64, Refusal>,
+    Result<u64, Refusal>,
+    Result<Own, Refusal>,
+) {
+    (
+        world.history(),
+        world.image(),
+        world.steps(p),
+        world.blocked(p),
+        world.began(p),
+    )
 }
 
-pub fn advance(world: &mut World, p: u64) -> Result<Stepped, Refusal> {
-    world.advance(p)
-}
-
-pub fn crash(world: &mut World, p: u64) -> Result<Deed, Refusal> {
-    world.crash(p)
-}
-
-pub fn history(world: &World) -> &[Deed] {
-    world.history()
-}
-
-pub fn image(world: &World) -> Result<Image, Refusal> {
-    world.image()
-}
-
-pub fn last_call(world: &World, p: u64) -> Result<(u64, u64, Own), Refusal> {
-    let steps: u64 = world.steps(p)?;
-    let blocked: u64 = world.blocked(p)?;
-    let began: Own = world.began(p)?;
-    Ok((steps, blocked, began))
-}
-
-/// The four methods that a machine has to have.
+/// The four methods that a machine has to have, and the one that it has.
 pub fn take_turns<M: Machine>(
     machine: &mut M,
     p: u64,
     call: Call,
-) -> Result<(Stepped, Deed, Image), Refusal> {
-    machine.start(p, call)?;
-    let stepped: Stepped = machine.advance(p)?;
-    let deed: Deed = machine.crash(p)?;
-    let image: Image = machine.image()?;
-    Ok((stepped, deed, image))
+) -> (
+    Result<(), Refusal>,
+    Result<Stepped, Refusal>,
+    Result<Deed, Refusal>,
+    Result<Image, Refusal>,
+    bool,
+) {
+    (
+        machine.start(p, call),
+        machine.advance(p),
+        machine.crash(p),
+        machine.image(),
+        machine.step_silently(p),
+    )
 }
 
-pub fn step_silently<M: Machine>(machine: &mut M, p: u64) -> bool {
-    machine.step_silently(p)
+pub fn world_takes_turns(world: &mut World, p: u64, call: Call) -> bool {
+    let (_, _, _, _, silently) = take_turns(world, p, call);
+    silently
 }
 
-pub fn world_steps_silently(world: &mut World, p: u64) -> bool {
-    step_silently(world, p)
-}
-
-pub fn takes_a_word(call: Call) -> bool {
-    match call {
+pub fn in_variants(
+    call: Call,
+    answer: Answer,
+    stepped: Stepped,
+) -> (
+    bool,
+    (Option<Found>, Option<Reply>),
+    (Happened, Option<Deed>, Option<Answer>),
+) {
+    let takes_a_word = match call {
         Call::Get(_) | Call::Put(_, _) => true,
         Call::Lock
         | Call::Unlock
@@ -81,20 +98,8 @@ pub fn takes_a_word(call: Call) -> bool {
         | Call::Append { seq: _, value: _ }
         | Call::Close
         | Call::Withdraw => false,
-    }
-}
-
-pub fn fields_of_stepped(stepped: Stepped) -> (Happened, Option<Deed>, Option<Answer>) {
-    let Stepped {
-        happened,
-        deed,
-        answer,
-    } = stepped;
-    (happened, deed, answer)
-}
-
-pub fn reports_by(answer: Answer) -> (Option<Found>, Option<Reply>) {
-    match answer {
+    };
+    let reports = match answer {
         Answer::Found(found) => (Some(found), None),
         Answer::Mail(reply) => (None, Some(reply)),
         Answer::Clean
@@ -103,7 +108,13 @@ pub fn reports_by(answer: Answer) -> (Option<Found>, Option<Reply>) {
         | Answer::NotRecoverable
         | Answer::Unlocked
         | Answer::Withdrawn => (None, None),
-    }
+    };
+    let Stepped {
+        happened,
+        deed,
+        answer: ended_by,
+    } = stepped;
+    (takes_a_word, reports, (happened, deed, ended_by))
 }
 
 /// An image, made of lists that give their `Vec` back.
@@ -125,39 +136,34 @@ pub fn new_image(
     }
 }
 
-pub fn lists_of_image(image: &Image) -> (&[u64], &[Own]) {
-    (image.cells.as_slice(), image.lock.as_slice())
+pub fn of_image(
+    image: &Image,
+    cells: DataWords,
+    lock: Owns,
+) -> (&[u64], &[Own], Option<u64>, (Vec<u64>, Vec<Own>)) {
+    (
+        image.cells.as_slice(),
+        image.lock.as_slice(),
+        first_rule(image),
+        (cells.into_vec(), lock.into_vec()),
+    )
 }
 
-pub fn taken_back(cells: DataWords, lock: Owns) -> (Vec<u64>, Vec<Own>) {
-    (cells.into_vec(), lock.into_vec())
-}
-
-pub fn start_from(alloc: Global, image: &Image) -> Result<Start, Refusal> {
-    start_of(alloc, image)
-}
-
-pub fn read(alloc: Global, text: &[u8]) -> Result<Image, Refusal> {
-    read_image(alloc, text)
-}
-
-pub fn write(alloc: Global, image: &Image) -> Result<Vec<u8>, Refusal> {
-    write_image(alloc, image)
-}
-
-pub fn widened(alloc: Global, image: &Image, width: u64) -> Result<Image, Refusal> {
-    widen(alloc, image, width)
-}
-
-pub fn rule_broken(image: &Image) -> Option<u64> {
-    first_rule(image)
-}
-
-pub fn cite_the_laws() {
-    laws::every_execution_is_sound();
-    laws::histories_are_legal();
-    laws::process_states_are_own();
-    laws::executions_grow();
-    laws::every_process_can_enter();
-    image::laws::images_have_starts();
+pub fn texts(
+    alloc: Global,
+    text: &[u8],
+    image: &Image,
+    width: u64,
+) -> (
+    Result<Image, Refusal>,
+    Result<Start, Refusal>,
+    Result<Vec<u8>, Refusal>,
+    Result<Image, Refusal>,
+) {
+    (
+        read_image(alloc, text),
+        start_of(alloc, image),
+        write_image(alloc, image),
+        widen(alloc, image, width),
+    )
 }

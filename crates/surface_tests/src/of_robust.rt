@@ -8,7 +8,7 @@ use rmecore::{Body, Found, Refusal};
 use rmeworld::Image;
 use robust::{
     Arena, Entry, Gate, GatherFault, LabFault, LabResult, LockFault, Member, Setup, Spec, gather,
-    laws, run_lab,
+    run_lab,
 };
 use std::alloc::{AllocError, Global};
 use std::sync::Wait;
@@ -25,97 +25,74 @@ pub fn new_members<R>(
     Arena::new(rt, alloc, procs, limit, cap, width)
 }
 
-pub fn lock_within<P: CrashPlan>(
+pub fn enter_and_leave<P: CrashPlan>(
     member: &mut Member,
     plan: &mut P,
     turns: u64,
-) -> Result<Entry, LockFault> {
-    member.lock_within(plan, turns)
+) -> (
+    Result<Entry, LockFault>,
+    Result<Found, LockFault>,
+    Result<bool, LockFault>,
+    Result<(), LockFault>,
+    Result<(), LockFault>,
+) {
+    (
+        member.lock_within(plan, turns),
+        member.recover(plan),
+        member.consistent(plan),
+        member.unlock(plan),
+        member.withdraw(plan),
+    )
 }
 
-pub fn recover<P: CrashPlan>(member: &mut Member, plan: &mut P) -> Result<Found, LockFault> {
-    member.recover(plan)
-}
-
-pub fn consistent<P: CrashPlan>(member: &mut Member, plan: &mut P) -> Result<bool, LockFault> {
-    member.consistent(plan)
-}
-
-pub fn unlock<P: CrashPlan>(member: &mut Member, plan: &mut P) -> Result<(), LockFault> {
-    member.unlock(plan)
-}
-
-pub fn get<P: CrashPlan>(member: &mut Member, i: u64, plan: &mut P) -> Result<u64, LockFault> {
-    member.get(i, plan)
-}
-
-pub fn put<P: CrashPlan>(
+pub fn board_and_mail<P: CrashPlan>(
     member: &mut Member,
-    i: u64,
-    v: u64,
     plan: &mut P,
-) -> Result<(), LockFault> {
-    member.put(i, v, plan)
-}
-
-pub fn append_within<P: CrashPlan>(
-    member: &mut Member,
-    seq: u64,
-    value: Body,
-    plan: &mut P,
+    (i, v): (u64, u64),
+    (seq, value): (u64, Body),
     turns: u64,
-) -> Result<Reply, LockFault> {
-    member.append_within(seq, value, plan, turns)
-}
-
-pub fn close_within<P: CrashPlan>(
-    member: &mut Member,
-    plan: &mut P,
-    turns: u64,
-) -> Result<Reply, LockFault> {
-    member.close_within(plan, turns)
-}
-
-pub fn withdraw<P: CrashPlan>(member: &mut Member, plan: &mut P) -> Result<(), LockFault> {
-    member.withdraw(plan)
+) -> (
+    Result<u64, LockFault>,
+    Result<(), LockFault>,
+    Result<Reply, LockFault>,
+    Result<Reply, LockFault>,
+) {
+    (
+        member.get(i, plan),
+        member.put(i, v, plan),
+        member.append_within(seq, value, plan, turns),
+        member.close_within(plan, turns),
+    )
 }
 
 pub fn read_from(
     alloc: Global,
     member: &mut Member,
     place: u64,
-) -> Result<Vec<Message>, AllocError> {
-    member.read_from(alloc, place)
+) -> (Result<Vec<Message>, AllocError>, u64, u64) {
+    (
+        member.read_from(alloc, place),
+        member.steps(),
+        member.number(),
+    )
 }
 
-pub fn steps_and_number(member: &Member) -> (u64, u64) {
-    (member.steps(), member.number())
-}
-
-pub fn lock<R: Wait, P: CrashPlan>(
+pub fn wait<R: Wait, P: CrashPlan>(
     rt: &R,
     member: &mut Member,
     plan: &mut P,
-) -> Result<Entry, LockFault> {
-    member.lock(rt, plan)
-}
-
-pub fn append<R: Wait, P: CrashPlan>(
-    rt: &R,
-    member: &mut Member,
     seq: u64,
     value: Body,
-    plan: &mut P,
-) -> Result<Reply, LockFault> {
-    member.append(rt, seq, value, plan)
-}
-
-pub fn close<R: Wait, P: CrashPlan>(
-    rt: &R,
-    member: &mut Member,
-    plan: &mut P,
-) -> Result<Reply, LockFault> {
-    member.close(rt, plan)
+) -> (
+    Result<Entry, LockFault>,
+    Result<Reply, LockFault>,
+    Result<Reply, LockFault>,
+) {
+    (
+        member.lock(rt, plan),
+        member.append(rt, seq, value, plan),
+        member.close(rt, plan),
+    )
 }
 
 pub fn gathered(alloc: Global, members: Vec<Member>) -> Result<Image, (Vec<Member>, GatherFault)>
@@ -124,32 +101,37 @@ pub fn gathered(alloc: Global, members: Vec<Member>) -> Result<Image, (Vec<Membe
     gather(alloc, members)
 }
 
-pub fn pass_answer_on<G: Gate>(gate: &mut G, call: u64) {
-    gate.answered(call);
-}
-
+/// A gate gets the answers of a worker's calls.
 pub fn run<G: Gate + Send + Drop, R: Threads + Wait + Sync>(
     rt: &R,
     alloc: Global,
     spec: Spec,
     gates: Vec<G>,
+    gate: &mut G,
+    call: u64,
 ) -> Result<LabResult, LabFault> {
+    gate.answered(call);
     run_lab(rt, alloc, spec, gates)
 }
 
-pub fn fields_of_spec(spec: Spec) -> (u64, u64, u64, u64, u64) {
+pub fn fields(
+    spec: Spec,
+    setup: Setup,
+    lab: LabResult,
+) -> ((u64, u64, u64, u64, u64), (Layout, u64), Vec<Message>) {
     let Spec {
         procs,
         messages,
-        limit,
+        limit: limit_of_lab,
         cap,
         width,
     } = spec;
-    (procs, messages, limit, cap, width)
-}
-
-pub fn messages_of(lab: LabResult) -> Vec<Message> {
-    lab.messages
+    let Setup { layout, limit } = setup;
+    (
+        (procs, messages, limit_of_lab, cap, width),
+        (layout, limit),
+        lab.messages,
+    )
 }
 
 /// The entries and faults of `robust` are those of `table_runs`.
@@ -161,21 +143,26 @@ pub fn of_execution(
     (entry, fault, setup)
 }
 
-pub fn sizes_of(setup: Setup) -> (Layout, u64) {
-    let Setup { layout, limit } = setup;
-    (layout, limit)
-}
-
-pub fn is_clean(entry: Entry) -> bool {
-    match entry {
+/// The faults of a member have the numbers that docs/use/errors.md has.
+pub fn in_variants(
+    entry: Entry,
+    gathered: GatherFault,
+    lab: LabFault,
+    fault: LockFault,
+) -> (bool, bool, Option<u64>, u64) {
+    let is_clean = match entry {
         Entry::Clean => true,
         Entry::OwnerDied => false,
-    }
-}
-
-/// The faults of a member and their numbers, as docs/use/errors.md has them.
-pub fn number_specified(fault: LockFault) -> u64 {
-    match fault {
+    };
+    let lacks_members = match gathered {
+        GatherFault::NotAll => true,
+        GatherFault::OutOfMemory => false,
+    };
+    let worker = match lab {
+        LabFault::Member { p, fault: _ } | LabFault::Reply { p, reply: _ } => Some(p),
+        LabFault::BadSpec | LabFault::OutOfMemory => None,
+    };
+    let number = match fault {
         LockFault::Crashed => 1,
         LockFault::NotYet => 2,
         LockFault::NumbersSpent => 3,
@@ -186,23 +173,6 @@ pub fn number_specified(fault: LockFault) -> u64 {
         LockFault::BadIndex => 8,
         LockFault::OutOfMemory => 9,
         LockFault::BadWidth => 10,
-    }
-}
-
-pub fn lacks_members(fault: GatherFault) -> bool {
-    match fault {
-        GatherFault::NotAll => true,
-        GatherFault::OutOfMemory => false,
-    }
-}
-
-pub fn worker_in(fault: LabFault) -> Option<u64> {
-    match fault {
-        LabFault::Member { p, fault: _ } | LabFault::Reply { p, reply: _ } => Some(p),
-        LabFault::BadSpec | LabFault::OutOfMemory => None,
-    }
-}
-
-pub fn cite_the_laws() {
-    laws::every_run_is_sound();
+    };
+    (is_clean, lacks_members, worker, number)
 }

@@ -6,31 +6,35 @@ use rmecore::Refusal;
 use rmeworld::{Image, Machine};
 use schedule::replays::replay_loop::close;
 use schedule::{
-    Count, FromReader, Line, OutOfMemory, Page, ReplayFault, Schedule, Sink, Source, Text,
+    Count, Failed, FromReader, Line, OutOfMemory, Page, ReplayFault, Schedule, Sink, Source, Text,
     TextFault, ToWriter, Trace, Verdict, judge_trace, put_verdict, read_schedule, read_trace,
     replay, replay_on, replay_to_writer, write_schedule,
 };
 use std::alloc::{AllocError, Global};
 use std::io;
 
-pub fn read(alloc: Global, text: &[u8]) -> Result<Schedule, TextFault> {
-    read_schedule(alloc, text)
-}
-
-pub fn write(alloc: Global, schedule: &Schedule) -> Result<Vec<u8>, OutOfMemory> {
-    write_schedule(alloc, schedule)
-}
-
-pub fn trace_read(alloc: Global, text: &[u8]) -> Result<Trace, TextFault> {
-    read_trace(alloc, text)
+pub fn texts(
+    alloc: Global,
+    text: &[u8],
+    schedule: &Schedule,
+) -> (
+    Result<Schedule, TextFault>,
+    Result<Vec<u8>, OutOfMemory>,
+    Result<Trace, TextFault>,
+) {
+    (
+        read_schedule(alloc, text),
+        write_schedule(alloc, schedule),
+        read_trace(alloc, text),
+    )
 }
 
 pub fn replayed<R: Source, W: Sink>(
     alloc: Global,
     r: &mut R,
     w: &mut W,
-) -> Result<Verdict, ReplayFault> {
-    replay(alloc, r, w)
+) -> (Result<Verdict, ReplayFault>, Result<Verdict, ReplayFault>) {
+    (replay(alloc, r, w), judge_trace(alloc, r))
 }
 
 pub fn replayed_on<M: Machine, W: Sink>(
@@ -48,141 +52,127 @@ pub fn end_report<W: Sink>(
     image: &Image,
     verdict: Verdict,
     w: &mut W,
-) -> Result<(), ReplayFault> {
-    close(alloc, image, verdict, w)
+    line: &mut Vec<u8>,
+) -> (Result<(), ReplayFault>, Result<(), AllocError>) {
+    (close(alloc, image, verdict, w), put_verdict(line, verdict))
 }
 
-pub fn put_line(out: &mut Vec<u8>, verdict: Verdict) -> Result<(), AllocError> {
-    put_verdict(out, verdict)
-}
-
-pub fn trace_judged<R: Source>(alloc: Global, r: &mut R) -> Result<Verdict, ReplayFault> {
-    judge_trace(alloc, r)
-}
-
-pub fn new_schedule(
+pub fn new_texts(
     alloc: Global,
     procs: u64,
     limit: u64,
     cap: u64,
     width: u64,
-    line: Line,
-) -> Result<Schedule, Refusal> {
-    let mut schedule = Schedule::new(alloc, procs, limit, cap, width)?;
-    schedule.push(line)?;
-    Ok(schedule)
-}
-
-pub fn fields_of_schedule(schedule: &Schedule) -> (u64, u64, u64, u64, &[Line]) {
-    let head = schedule.head();
+    k: u64,
+) -> (
+    Result<Schedule, Refusal>,
+    Result<Trace, Refusal>,
+    Option<Count>,
+) {
     (
-        head.procs,
-        head.limit,
-        head.cap,
-        head.width,
-        schedule.lines(),
+        Schedule::new(alloc, procs, limit, cap, width),
+        Trace::new(alloc, procs, cap, width),
+        Count::new(k),
     )
 }
 
-pub fn new_trace(
-    alloc: Global,
-    procs: u64,
-    cap: u64,
-    width: u64,
+pub fn push(
+    schedule: &mut Schedule,
+    line: Line,
+    trace: &mut Trace,
     deed: Deed,
-) -> Result<Trace, Refusal> {
-    let mut trace = Trace::new(alloc, procs, cap, width)?;
-    trace.push(deed)?;
-    Ok(trace)
+) -> (Result<(), Refusal>, Result<(), Refusal>) {
+    (schedule.push(line), trace.push(deed))
 }
 
-pub fn fields_of_trace(trace: &Trace) -> (u64, u64, u64, &[Deed]) {
-    let head = trace.head();
-    (head.procs, head.cap, head.width, trace.deeds())
+pub fn fields<'a>(
+    schedule: &'a Schedule,
+    trace: &'a Trace,
+) -> (
+    (u64, u64, u64, u64, &'a [Line]),
+    (u64, u64, u64, &'a [Deed]),
+) {
+    let head = schedule.head();
+    let of_trace = trace.head();
+    (
+        (
+            head.procs,
+            head.limit,
+            head.cap,
+            head.width,
+            schedule.lines(),
+        ),
+        (of_trace.procs, of_trace.cap, of_trace.width, trace.deeds()),
+    )
 }
 
-pub fn count_of(k: u64) -> Option<Count> {
-    Count::new(k)
-}
-
-pub fn steps_of(line: Line) -> Option<(u64, u64)> {
-    match line {
+pub fn in_variants(
+    line: Line,
+    verdict: Verdict,
+    text: TextFault,
+    replay: ReplayFault,
+) -> (
+    Option<(u64, u64)>,
+    Option<(u64, Fault)>,
+    [Option<(u64, u64)>; 2],
+) {
+    let steps = match line {
         Line::Step(p, k) => Some((p, k.get())),
         Line::Start(_, _) | Line::Crash(_) | Line::CrashAll => None,
-    }
-}
-
-pub fn place_of_text_fault(fault: TextFault) -> Option<(u64, u64)> {
-    match fault {
-        TextFault::At { line, number } => Some((line, number)),
-        TextFault::OutOfMemory => None,
-    }
-}
-
-pub fn fault_in(verdict: Verdict) -> Option<(u64, Fault)> {
-    match verdict {
+    };
+    let fault = match verdict {
         Verdict::Fine => None,
         Verdict::Against { at, fault } => Some((at, fault)),
-    }
-}
-
-pub fn place_of_replay_fault(fault: ReplayFault) -> Option<(u64, u64)> {
-    match fault {
+    };
+    let of_text = match text {
+        TextFault::At { line, number } => Some((line, number)),
+        TextFault::OutOfMemory => None,
+    };
+    let of_replay = match replay {
         ReplayFault::Text { line, number } | ReplayFault::Refused { line, number } => {
             Some((line, number))
         }
         ReplayFault::Read | ReplayFault::Write | ReplayFault::OutOfMemory => None,
-    }
+    };
+    (steps, fault, [of_text, of_replay])
 }
 
-pub fn given<R: Source>(r: &mut R, buf: &mut [u8]) -> Option<usize> {
-    r.read(buf).ok()
+pub fn devices<R: Source, W: Sink>(
+    r: &mut R,
+    buf: &mut [u8],
+    w: &mut W,
+    bytes: &[u8],
+) -> (
+    Result<usize, Failed>,
+    Result<usize, Failed>,
+    Result<(), Failed>,
+) {
+    (r.read(buf), w.write(bytes), w.flush())
 }
 
-pub fn taken<W: Sink>(w: &mut W, bytes: &[u8]) -> Option<usize> {
-    w.write(bytes).ok()
-}
-
-pub fn flushed<W: Sink>(w: &mut W) -> bool {
-    w.flush().is_ok()
-}
-
-/// A trace in memory is judged.
-pub fn text_judged(alloc: Global, text: &[u8], piece: usize) -> Result<Verdict, ReplayFault> {
-    trace_judged(alloc, &mut Text::new(text, piece))
-}
-
-/// A schedule that any reader of std gives is replayed.
-pub fn reader_replayed<R: io::Read + Drop>(
-    alloc: Global,
-    reader: R,
-    page: &mut Page,
-) -> Result<Verdict, ReplayFault> {
-    replayed(alloc, &mut FromReader::new(reader), page)
-}
-
-/// A schedule in memory is replayed to any writer of std.
-pub fn replayed_to_writer<W: io::Write + Drop>(
+/// Of a text in memory onto a page, and of any reader of std to any writer of std.
+pub fn devices_replayed<R: io::Read + Drop, W: io::Write + Drop>(
     alloc: Global,
     text: &[u8],
-    piece: usize,
+    page: &mut Page,
+    reader: R,
     writer: W,
-) -> Result<Verdict, ReplayFault> {
-    replayed(
-        alloc,
-        &mut Text::new(text, piece),
-        &mut ToWriter::new(writer),
-    )
+) -> [(Result<Verdict, ReplayFault>, Result<Verdict, ReplayFault>); 2] {
+    [
+        replayed(alloc, &mut Text::new(text, 1), page),
+        replayed(
+            alloc,
+            &mut FromReader::new(reader),
+            &mut ToWriter::new(writer),
+        ),
+    ]
 }
 
 pub fn replayed_to<R: io::Read + Drop, W: io::Write>(
     alloc: Global,
     reader: R,
     writer: W,
-) -> (Result<Verdict, ReplayFault>, W) {
-    replay_to_writer(alloc, reader, writer)
-}
-
-pub fn writer_of<W: io::Write>(sink: ToWriter<W>) -> W {
-    sink.into_inner()
+    sink: ToWriter<W>,
+) -> ((Result<Verdict, ReplayFault>, W), W) {
+    (replay_to_writer(alloc, reader, writer), sink.into_inner())
 }

@@ -2,10 +2,10 @@
 
 use crashlab::Variant;
 use diagram::{
-    Drawing, LifelinePhase, Session, SessionReply, Style, draw, follow, follow_as_lines,
-    put_verdict_object, write_drawing, write_page,
+    Drawing, LifelinePhase, LockSimulation, Session, SessionReply, Style, draw, follow,
+    follow_as_lines, put_verdict_object, write_drawing, write_page,
 };
-use explorer::{MoveVerdict, SearchFault, SearchOutcome, Space, Unwatched, Watch, laws, search};
+use explorer::{MoveVerdict, SearchFault, SearchOutcome, Space, Unwatched, Watch, search};
 use judge::Judge;
 use lock_explorer::{Bounds, ExploreFault, Move, Variables, shortest_schedule};
 use redomail::Layout;
@@ -22,22 +22,38 @@ pub fn searched<S: Space>(
     search(alloc, start, most_moves, most_states, &mut Unwatched)
 }
 
-pub fn length_of_path<M: Copy>(outcome: &SearchOutcome<M>) -> Option<usize> {
+pub fn watched<M: Copy, W: Watch>(
+    outcome: &SearchOutcome<M>,
+    watch: &mut W,
+    moves: u64,
+    states: u64,
+) -> Option<usize> {
+    watch.see(moves, states);
     match outcome {
         SearchOutcome::Path(moves) => Some(moves.len()),
         SearchOutcome::NoneWithin | SearchOutcome::Nowhere(_) => None,
     }
 }
 
-pub fn is_fault(verdict: MoveVerdict) -> bool {
-    match verdict {
+pub fn in_variants(
+    verdict: MoveVerdict,
+    made: Move,
+    fault: ExploreFault,
+    reply: &SessionReply,
+) -> (bool, u64, bool, bool) {
+    let is_fault = match verdict {
         MoveVerdict::Fault => true,
         MoveVerdict::Silent => false,
-    }
-}
-
-pub fn watched<W: Watch>(watch: &mut W, moves: u64, states: u64) {
-    watch.see(moves, states);
+    };
+    let process = match made {
+        Move::Start(p, _) | Move::Step(p) | Move::Crash(p) => p,
+    };
+    let has_given_up = match fault {
+        ExploreFault::TooManyStates => true,
+        ExploreFault::Refused(_) | ExploreFault::OutOfMemory => false,
+    };
+    let quits = *reply == SessionReply::Quits;
+    (is_fault, process, has_given_up, quits)
 }
 
 pub fn searched_for_schedule<W: Watch>(
@@ -47,98 +63,74 @@ pub fn searched_for_schedule<W: Watch>(
     limit: u64,
     calls: &[Call],
     variables: Variables,
-    bounds: &Bounds,
+    (crashes, moves, states): (u64, u64, u64),
     watch: &mut W,
 ) -> Result<SearchOutcome<Move>, ExploreFault> {
-    shortest_schedule(
-        alloc, variant, layout, limit, calls, variables, bounds, watch,
-    )
-}
-
-pub fn bounds_of(crashes: u64, moves: u64, states: u64) -> Bounds {
-    Bounds {
+    let bounds = Bounds {
         crashes,
         moves,
         states,
-    }
-}
-
-pub fn process_of(made: Move) -> u64 {
-    match made {
-        Move::Start(p, _) | Move::Step(p) | Move::Crash(p) => p,
-    }
-}
-
-pub fn has_given_up(fault: ExploreFault) -> bool {
-    match fault {
-        ExploreFault::TooManyStates => true,
-        ExploreFault::Refused(_) | ExploreFault::OutOfMemory => false,
-    }
-}
-
-pub fn drawn<M: Machine>(
-    alloc: Global,
-    machine: &mut M,
-    judge: &mut Judge,
-    schedule: &Schedule,
-    first: LifelinePhase,
-) -> Result<Drawing, OutOfMemory> {
-    draw(alloc, machine, judge, schedule, first)
+    };
+    shortest_schedule(
+        alloc, variant, layout, limit, calls, variables, &bounds, watch,
+    )
 }
 
 pub fn written<W: Sink>(
-    alloc: Global,
-    drawing: &Drawing,
-    svg: bool,
-    w: &mut W,
-) -> Result<(), ReplayFault> {
-    let style = if svg { Style::Svg } else { Style::Text };
-    write_drawing(alloc, drawing, style, w)
-}
-
-pub fn followed<M: Machine, W: Sink>(
-    alloc: Global,
-    machine: &mut M,
-    judge: &mut Judge,
-    schedule: &Schedule,
-    first: LifelinePhase,
-    w: &mut W,
-) -> Result<Verdict, ReplayFault> {
-    follow(alloc, machine, judge, schedule, first, w)
-}
-
-pub fn followed_as_lines<M: Machine, W: Sink>(
-    alloc: Global,
-    machine: &mut M,
-    judge: &mut Judge,
-    schedule: &Schedule,
-    first: LifelinePhase,
-    w: &mut W,
-) -> Result<Verdict, ReplayFault> {
-    follow_as_lines(alloc, machine, judge, schedule, first, w)
-}
-
-pub fn paged<W: Sink>(
     alloc: Global,
     first: &Image,
     drawing: &Drawing,
     last: &Image,
     w: &mut W,
-) -> Result<(), ReplayFault> {
-    write_page(alloc, first, drawing, last, w)
+) -> (
+    Result<(), ReplayFault>,
+    Result<(), ReplayFault>,
+    Result<(), ReplayFault>,
+) {
+    (
+        write_drawing(alloc, drawing, Style::Svg, w),
+        write_drawing(alloc, drawing, Style::Text, w),
+        write_page(alloc, first, drawing, last, w),
+    )
 }
 
-pub fn verdict_written(out: &mut Vec<u8>, verdict: Verdict) -> Result<(), AllocError> {
-    put_verdict_object(out, verdict)
+pub fn drawn<M: Machine, W: Sink>(
+    alloc: Global,
+    machine: &mut M,
+    judge: &mut Judge,
+    schedule: &Schedule,
+    first: LifelinePhase,
+    w: &mut W,
+) -> (
+    Result<Drawing, OutOfMemory>,
+    Result<Verdict, ReplayFault>,
+    Result<Verdict, ReplayFault>,
+) {
+    (
+        draw(alloc, machine, judge, schedule, first),
+        follow(alloc, machine, judge, schedule, first, w),
+        follow_as_lines(alloc, machine, judge, schedule, first, w),
+    )
 }
 
-pub fn ends_at(alloc: Global, schedule: Schedule, line: &[u8]) -> Result<bool, AllocError> {
-    let mut session = Session::new(alloc, schedule)?;
-    let mut page = Vec::new(alloc);
-    session.put_state(&mut page)?;
-    Ok(session.answer(alloc, line, &mut page)? == SessionReply::Quits)
+pub fn opened(alloc: Global, schedule: Schedule) -> Result<Session<LockSimulation>, AllocError> {
+    Session::new(alloc, schedule)
 }
 
-pub fn cite_the_laws<S: Space>() {
-    laws::answers_are_one::<S>();
+pub fn session_calls(
+    alloc: Global,
+    session: &mut Session<LockSimulation>,
+    line: &[u8],
+    verdict: Verdict,
+    page: &mut Vec<u8>,
+) -> (
+    Result<(), AllocError>,
+    Result<SessionReply, AllocError>,
+    Result<(), AllocError>,
+) {
+    (
+        session.put_state(page),
+        session.answer(alloc, line, page),
+        put_verdict_object(page, verdict),
+    )
 }

@@ -1,9 +1,6 @@
 //! What `clap` prints: the help of the program and of each command, and the errors for bad words.
 
-use crate::support::invocation::all_come_to;
-use std::test::Fail;
-
-const TEXTS: &str = "
+pub const HELPS_AND_WRONG_WORDS: &str = "
 @text HELP
 A laboratory of recoverable first-come first-served locks
 
@@ -46,9 +43,6 @@ Out: the verdict line; with --json an object.
 Exit status: 0 if the verdict is fine, 1 if it is against, 2 after a fault of the words or the trace, 3 after a fault of a device or of memory.
 
 Example: rmelab judge examples/overtaken.trace
-";
-
-const HELPS_AND_WRONG_WORDS: &str = "
 @row rmelab --help @out HELP
 @row rmelab replay --help @out
 Runs a schedule of steps and crashes, and prints its report
@@ -323,8 +317,3 @@ error: invalid value 'x' for '--rounds <R>': invalid digit found in string
 
 For more information, try '--help'.
 ";
-
-#[test]
-fn helps_and_wrong_words(rt: HostRuntime) -> Result<(), Fail> {
-    all_come_to(&rt, rt.alloc(), &[TEXTS], HELPS_AND_WRONG_WORDS)
-}

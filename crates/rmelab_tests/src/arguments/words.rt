@@ -2,8 +2,6 @@
 
 use crate::support::invocation::words_of;
 use cli::arguments::words::read_words;
-use std::alloc::Global;
-use std::fmt::Write;
 use std::test::Fail;
 use test_support::text::cut;
 
@@ -133,19 +131,14 @@ tool: First, words: 70, digits: 1, part: 0, parts: 1, file: None } })
 rmelab judge
 Judge(JudgeArgs { json: false, file: None })";
 
-/// The command that the line spells.
-fn spelled(alloc: Global, line: &str) -> Result<String, Fail> {
-    let mut text = String::new(alloc);
-    write!(text, "{:?}", read_words(alloc, &words_of(alloc, line)?)?)?;
-    Ok(text)
-}
-
 #[test]
 fn lines_spell_commands(rt: HostRuntime) -> Result<(), Fail> {
     for row in SPELLED.split("\n\n") {
-        let mut command = row;
-        let line = cut(&mut command, "\n");
-        assert!(rt; spelled(rt.alloc(), line)?.as_str() == command, "{line}");
+        let mut wanted = row;
+        let line = cut(&mut wanted, "\n");
+        let command = read_words(rt.alloc(), &words_of(rt.alloc(), line)?)?;
+        let spelled = format!(in rt.alloc(); "{command:?}")?;
+        assert!(rt; spelled.as_str() == wanted, "{line}");
     }
     Ok(())
 }

@@ -88,6 +88,7 @@ rmelab: line 1: refused 1
 rmelab: write failed
 "#;
 
+/// A page is the drawing and the lines of a run between fixed parts.
 const PAGES: &str = "
 @row rmelab draw --html @in SMALLEST @out PAGE
 @row rmelab draw --svg --html @in SMALLEST @out PAGE
@@ -96,11 +97,10 @@ const PAGES: &str = "
 rmelab: line 1: fault 1
 ";
 
-/// A page is the drawing and the lines of a run between fixed parts.
 #[test]
 fn pages(rt: HostRuntime) -> Result<(), Fail> {
-    let picture = text_named(&[TEXTS], "PICTURE").unwrap_or("");
-    let lines = text_named(&[stepwise::TEXTS], "LINES").unwrap_or("");
+    let picture = text_named("", &[TEXTS], "PICTURE").unwrap_or("");
+    let lines = text_named("", &[stepwise::TEXTS], "LINES").unwrap_or("");
     let page = format!(in rt.alloc();
         "@text PAGE\n{PAGE_HEAD}{picture}{PAGE_STEP}{lines}{PAGE_SCRIPT}"
     )?;
@@ -108,7 +108,7 @@ fn pages(rt: HostRuntime) -> Result<(), Fail> {
 }
 
 /// A drawing up to the line that is refused is whole. If the text isn't a schedule, nothing is drawn.
-const DRAWINGS: &str = r#"
+pub const DRAWINGS: &str = r#"
 @row rmelab draw @in SMALLEST @out DRAWN
 @row rmelab draw s.rme @in OTHER @file s.rme SMALLEST @out DRAWN
 @row rmelab draw --svg @in SMALLEST @out PICTURE
@@ -198,8 +198,3 @@ rmelab: line 2: fault 3
 @row rmelab draw s.rme @in SMALLEST @fails file-memory @ends 3 @err
 rmelab: out of memory
 "#;
-
-#[test]
-fn drawings(rt: HostRuntime) -> Result<(), Fail> {
-    all_come_to(&rt, rt.alloc(), &[TEXTS], DRAWINGS)
-}

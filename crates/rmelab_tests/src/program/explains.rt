@@ -1,8 +1,5 @@
 //! What `explain` prints: the names of all entries, one entry of each kind, and words that name none.
 
-use crate::support::invocation::all_come_to;
-use std::test::Fail;
-
 /// An entry, and what is printed for words that name no entry.
 pub const TEXTS: &str = "
 @text NO_NEWLINE
@@ -16,7 +13,7 @@ For more information, try 'rmelab explain'.
 rmelab: write failed
 ";
 
-const EXPLANATIONS: &str = "
+pub const EXPLANATIONS: &str = "
 @row rmelab explain @out
 fault 1
 fault 2
@@ -170,8 +167,3 @@ For more information, try '--help'.
 @row rmelab explain fault 5 @fails flush @out NO_NEWLINE @ends 3 @err UNWRITTEN
 @row rmelab explain fault 7 @fails err @ends 2
 ";
-
-#[test]
-fn explanations(rt: HostRuntime) -> Result<(), Fail> {
-    all_come_to(&rt, rt.alloc(), &[TEXTS], EXPLANATIONS)
-}

@@ -1,6 +1,6 @@
 //! Whole invocations of other kinds: senders, a hunt, the version, and words that are refused.
 
-use crate::support::invocation::{all_come_to, comes_to};
+use crate::support::invocation::comes_to;
 use crate::support::row::ProgramRow;
 use cli::arguments::words::words_given;
 use commands::CommandFault;
@@ -11,7 +11,7 @@ use std::rt::Env;
 use std::test::Fail;
 
 /// A bad variant is found before a bad size.
-const REPORTS_AND_REFUSALS: &str = "
+pub const REPORTS_AND_REFUSALS: &str = "
 @row rmelab run --procs 1 --messages 1 --crash 0 --seed 1 @out
 sender 0 messages 1 twice 0 order yes
 total 1
@@ -47,20 +47,7 @@ rmelab: bad size
 rmelab: bad size
 ";
 
-#[test]
-fn reports_and_refusals(rt: HostRuntime) -> Result<(), Fail> {
-    all_come_to(&rt, rt.alloc(), &[], REPORTS_AND_REFUSALS)
-}
-
 const MEMBER_3_FAILED: &str = "rmelab: member 3 failed\n";
-
-/// No command line makes a member of a lab fail. So the end of a command is tested by itself, where each fault is reported.
-#[test]
-fn a_member_that_fails(rt: HostRuntime) {
-    let mut page = Page::new(rt.alloc());
-    let status = close(Err(CommandFault::Member { p: 3 }), &mut page);
-    assert!(rt; status == 3 && page.as_slice() == MEMBER_3_FAILED.as_bytes());
-}
 
 /// The words of a process. The second one isn't UTF-8 text.
 #[derive(Drop)]
@@ -92,8 +79,14 @@ impl Env for BadWords {
 const NO_TEXT: &str =
     "error: invalid UTF-8 was detected in one or more arguments\n\nFor more information, try '--help'.\n";
 
+/// No command line makes a member of a lab fail. So the end of a command is tested by itself, where each fault is reported. And
+/// the words of a process may be no text.
 #[test]
-fn words_that_are_no_text(rt: HostRuntime) -> Result<(), Fail> {
+fn a_member_that_fails_and_words_that_are_no_text(rt: HostRuntime) -> Result<(), Fail> {
+    let mut page = Page::new(rt.alloc());
+    let status = close(Err(CommandFault::Member { p: 3 }), &mut page);
+    assert!(rt; status == 3 && page.as_slice() == MEMBER_3_FAILED.as_bytes());
+
     let words = words_given(&(BadWords, rt.alloc()));
     let row = ProgramRow {
         reports: NO_TEXT,

@@ -1,6 +1,5 @@
 //! Senders on threads.
 
-use crate::support::invocation::all_come_to;
 use cli::arguments::args::RunArgs;
 use crashlab::{CrashPlan, Seeded};
 use lock_commands::run_command::{gates_of, lines_of, status_of_tallies};
@@ -9,24 +8,16 @@ use redomail::Message;
 use rmecore::Body;
 use std::test::Fail;
 
-const TEXTS: &str = "
+pub const FOUR_SENDERS: &str = "
 @text FOUR
 sender 0 messages 50 twice 0 order yes
 sender 1 messages 50 twice 0 order yes
 sender 2 messages 50 twice 0 order yes
 sender 3 messages 50 twice 0 order yes
 total 200
-";
-
-const FOUR_SENDERS: &str = "
 @row rmelab run --procs 4 --messages 50 --crash 20 --seed 7 @out FOUR
 @row rmelab run --procs 4 --messages 50 --crash 20 --seed 7 --width 8 @out FOUR
 ";
-
-#[test]
-fn four_senders(rt: HostRuntime) -> Result<(), Fail> {
-    all_come_to(&rt, rt.alloc(), &[TEXTS], FOUR_SENDERS)
-}
 
 /// Whether each plan falls where the one with this seed does, or with the next one for each that follows.
 fn fall_as_seeded(plans: &mut [Seeded], first: u64, per_mille: u64) -> bool {

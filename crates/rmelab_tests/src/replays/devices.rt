@@ -1,19 +1,12 @@
 //! Replays and traces where a reader, a writer or a file fails.
 
-use crate::replays::reports;
-use crate::support::invocation::all_come_to;
-use std::test::Fail;
-
-const TEXTS: &str = "
+pub const DEVICES_AND_FILES_THAT_FAIL: &str = "
 @text UNREAD
 rmelab: read failed
 @text UNWRITTEN
 rmelab: write failed
 @text OUT_OF_MEMORY
 rmelab: out of memory
-";
-
-const DEVICES_AND_FILES_THAT_FAIL: &str = "
 @row rmelab replay @in SMALLEST @fails read @ends 3 @err UNREAD
 @row rmelab replay --json @in SMALLEST @fails read @ends 3 @err UNREAD
 @row rmelab replay --save a.json @in SMALLEST @fails read @ends 3 @err UNREAD
@@ -35,13 +28,3 @@ const DEVICES_AND_FILES_THAT_FAIL: &str = "
 @row rmelab replay s.rme @in SMALLEST @fails file-memory @ends 3 @err OUT_OF_MEMORY
 @row rmelab replay --save a.json @in SMALLEST @fails file-memory @out REPORT @ends 3 @err OUT_OF_MEMORY
 ";
-
-#[test]
-fn devices_and_files_that_fail(rt: HostRuntime) -> Result<(), Fail> {
-    all_come_to(
-        &rt,
-        rt.alloc(),
-        &[reports::TEXTS, TEXTS],
-        DEVICES_AND_FILES_THAT_FAIL,
-    )
-}

@@ -1,70 +1,288 @@
 //! The longest worked row: 64 processes, two of them in the line, and then each crashes. Another replay starts from the
 //! image that it saves.
 
-use crate::support::invocation::all_come_to;
-use std::alloc::Global;
-use std::test::Fail;
-
-/// Adds what comes before the lines, and then a line for each process from `first` on: a word, the process and what comes
-/// after it.
-fn add_lines(
-    alloc: Global,
-    text: &mut String,
-    before: &str,
-    (word, after): (&str, &str),
-    first: u64,
-) -> Result<(), Fail> {
-    text.push_str(before)?;
-    for p in first..64 {
-        let line = format!(in alloc; "{word} {p}{after}\n")?;
-        text.push_str(&line)?;
-    }
-    Ok(())
-}
-
-/// Adds the words at the end: process 0 is inside, 1 has number 2, and no other is in the line.
-fn add_standing(alloc: Global, text: &mut String) -> Result<(), Fail> {
-    let first = "words 0 0 1 1\nwords 1 0 2 0\n";
-    add_lines(alloc, text, first, ("words", " 0 0 0"), 2)?;
-    text.push_str("mail 0 closed 0 ruined 0\nverdict fine\n")?;
-    Ok(())
-}
-
-/// Adds the image. Its data words, 15 and one more for each process but the first, are 0.
-fn add_image(text: &mut String) -> Result<(), Fail> {
-    text.push_str("@text IMAGE\n{\"cap\":1,\"data\":[0")?;
-    for _ in 1..78u64 {
-        text.push_str(",0")?;
-    }
-    text.push_str("],\"limit\":100,\"lock\":[[0,1,1],[0,2,0]")?;
-    for _ in 2..64u64 {
-        text.push_str(",[0,0,0]")?;
-    }
-    text.push_str("],\"version\":2,\"width\":1}\n")?;
-    Ok(())
-}
-
-/// Adds the reports: of all that crash, and of two that come back. Process 1 has then reread its words and still has its number:
-/// no word changes.
-fn add_reports(alloc: Global, text: &mut String) -> Result<(), Fail> {
-    let entered = "@text REPORT\nbegin 0\nready 0\nenter 0\nanswer 0 clean\nbegin 1\nready 1\n";
-    add_lines(alloc, text, entered, ("crash", ""), 0)?;
-    add_standing(alloc, text)?;
-    text.push_str("@text AGAIN_REPORT\nreenter 0\nanswer 0 owner-died\n")?;
-    add_standing(alloc, text)
-}
-
-fn texts(alloc: Global) -> Result<String, Fail> {
-    let mut text = String::new(alloc);
-    let locked =
-        "@text SCHEDULE\nrme 1 procs 64 limit 100 cap 1\nlock 0\nstep 0 197\nlock 1\nstep 1 69\n";
-    add_lines(alloc, &mut text, locked, ("crash", ""), 0)?;
-    add_reports(alloc, &mut text)?;
-    add_image(&mut text)?;
-    Ok(text)
-}
-
-const ROWS: &str = "
+/// `REPORT`: of all that crash. At the end process 0 is inside, 1 has number 2, and no other is in the line. `AGAIN_REPORT`: of two that
+/// come back. Process 1 has then reread its words and still has its number: no word changes. The data words of the image, 15 and
+/// one more for each process but the first, are 0.
+pub const CRASH_OF_EVERYTHING: &str = r#"
+@text SCHEDULE
+rme 1 procs 64 limit 100 cap 1
+lock 0
+step 0 197
+lock 1
+step 1 69
+crash 0
+crash 1
+crash 2
+crash 3
+crash 4
+crash 5
+crash 6
+crash 7
+crash 8
+crash 9
+crash 10
+crash 11
+crash 12
+crash 13
+crash 14
+crash 15
+crash 16
+crash 17
+crash 18
+crash 19
+crash 20
+crash 21
+crash 22
+crash 23
+crash 24
+crash 25
+crash 26
+crash 27
+crash 28
+crash 29
+crash 30
+crash 31
+crash 32
+crash 33
+crash 34
+crash 35
+crash 36
+crash 37
+crash 38
+crash 39
+crash 40
+crash 41
+crash 42
+crash 43
+crash 44
+crash 45
+crash 46
+crash 47
+crash 48
+crash 49
+crash 50
+crash 51
+crash 52
+crash 53
+crash 54
+crash 55
+crash 56
+crash 57
+crash 58
+crash 59
+crash 60
+crash 61
+crash 62
+crash 63
+@text REPORT
+begin 0
+ready 0
+enter 0
+answer 0 clean
+begin 1
+ready 1
+crash 0
+crash 1
+crash 2
+crash 3
+crash 4
+crash 5
+crash 6
+crash 7
+crash 8
+crash 9
+crash 10
+crash 11
+crash 12
+crash 13
+crash 14
+crash 15
+crash 16
+crash 17
+crash 18
+crash 19
+crash 20
+crash 21
+crash 22
+crash 23
+crash 24
+crash 25
+crash 26
+crash 27
+crash 28
+crash 29
+crash 30
+crash 31
+crash 32
+crash 33
+crash 34
+crash 35
+crash 36
+crash 37
+crash 38
+crash 39
+crash 40
+crash 41
+crash 42
+crash 43
+crash 44
+crash 45
+crash 46
+crash 47
+crash 48
+crash 49
+crash 50
+crash 51
+crash 52
+crash 53
+crash 54
+crash 55
+crash 56
+crash 57
+crash 58
+crash 59
+crash 60
+crash 61
+crash 62
+crash 63
+words 0 0 1 1
+words 1 0 2 0
+words 2 0 0 0
+words 3 0 0 0
+words 4 0 0 0
+words 5 0 0 0
+words 6 0 0 0
+words 7 0 0 0
+words 8 0 0 0
+words 9 0 0 0
+words 10 0 0 0
+words 11 0 0 0
+words 12 0 0 0
+words 13 0 0 0
+words 14 0 0 0
+words 15 0 0 0
+words 16 0 0 0
+words 17 0 0 0
+words 18 0 0 0
+words 19 0 0 0
+words 20 0 0 0
+words 21 0 0 0
+words 22 0 0 0
+words 23 0 0 0
+words 24 0 0 0
+words 25 0 0 0
+words 26 0 0 0
+words 27 0 0 0
+words 28 0 0 0
+words 29 0 0 0
+words 30 0 0 0
+words 31 0 0 0
+words 32 0 0 0
+words 33 0 0 0
+words 34 0 0 0
+words 35 0 0 0
+words 36 0 0 0
+words 37 0 0 0
+words 38 0 0 0
+words 39 0 0 0
+words 40 0 0 0
+words 41 0 0 0
+words 42 0 0 0
+words 43 0 0 0
+words 44 0 0 0
+words 45 0 0 0
+words 46 0 0 0
+words 47 0 0 0
+words 48 0 0 0
+words 49 0 0 0
+words 50 0 0 0
+words 51 0 0 0
+words 52 0 0 0
+words 53 0 0 0
+words 54 0 0 0
+words 55 0 0 0
+words 56 0 0 0
+words 57 0 0 0
+words 58 0 0 0
+words 59 0 0 0
+words 60 0 0 0
+words 61 0 0 0
+words 62 0 0 0
+words 63 0 0 0
+mail 0 closed 0 ruined 0
+verdict fine
+@text AGAIN_REPORT
+reenter 0
+answer 0 owner-died
+words 0 0 1 1
+words 1 0 2 0
+words 2 0 0 0
+words 3 0 0 0
+words 4 0 0 0
+words 5 0 0 0
+words 6 0 0 0
+words 7 0 0 0
+words 8 0 0 0
+words 9 0 0 0
+words 10 0 0 0
+words 11 0 0 0
+words 12 0 0 0
+words 13 0 0 0
+words 14 0 0 0
+words 15 0 0 0
+words 16 0 0 0
+words 17 0 0 0
+words 18 0 0 0
+words 19 0 0 0
+words 20 0 0 0
+words 21 0 0 0
+words 22 0 0 0
+words 23 0 0 0
+words 24 0 0 0
+words 25 0 0 0
+words 26 0 0 0
+words 27 0 0 0
+words 28 0 0 0
+words 29 0 0 0
+words 30 0 0 0
+words 31 0 0 0
+words 32 0 0 0
+words 33 0 0 0
+words 34 0 0 0
+words 35 0 0 0
+words 36 0 0 0
+words 37 0 0 0
+words 38 0 0 0
+words 39 0 0 0
+words 40 0 0 0
+words 41 0 0 0
+words 42 0 0 0
+words 43 0 0 0
+words 44 0 0 0
+words 45 0 0 0
+words 46 0 0 0
+words 47 0 0 0
+words 48 0 0 0
+words 49 0 0 0
+words 50 0 0 0
+words 51 0 0 0
+words 52 0 0 0
+words 53 0 0 0
+words 54 0 0 0
+words 55 0 0 0
+words 56 0 0 0
+words 57 0 0 0
+words 58 0 0 0
+words 59 0 0 0
+words 60 0 0 0
+words 61 0 0 0
+words 62 0 0 0
+words 63 0 0 0
+mail 0 closed 0 ruined 0
+verdict fine
+@text IMAGE
+{"cap":1,"data":[0,0,0,0,0,0,0,0,0,0,0,0,0,0,0,0,0,0,0,0,0,0,0,0,0,0,0,0,0,0,0,0,0,0,0,0,0,0,0,0,0,0,0,0,0,0,0,0,0,0,0,0,0,0,0,0,0,0,0,0,0,0,0,0,0,0,0,0,0,0,0,0,0,0,0,0,0,0],"limit":100,"lock":[[0,1,1],[0,2,0],[0,0,0],[0,0,0],[0,0,0],[0,0,0],[0,0,0],[0,0,0],[0,0,0],[0,0,0],[0,0,0],[0,0,0],[0,0,0],[0,0,0],[0,0,0],[0,0,0],[0,0,0],[0,0,0],[0,0,0],[0,0,0],[0,0,0],[0,0,0],[0,0,0],[0,0,0],[0,0,0],[0,0,0],[0,0,0],[0,0,0],[0,0,0],[0,0,0],[0,0,0],[0,0,0],[0,0,0],[0,0,0],[0,0,0],[0,0,0],[0,0,0],[0,0,0],[0,0,0],[0,0,0],[0,0,0],[0,0,0],[0,0,0],[0,0,0],[0,0,0],[0,0,0],[0,0,0],[0,0,0],[0,0,0],[0,0,0],[0,0,0],[0,0,0],[0,0,0],[0,0,0],[0,0,0],[0,0,0],[0,0,0],[0,0,0],[0,0,0],[0,0,0],[0,0,0],[0,0,0],[0,0,0],[0,0,0]],"version":2,"width":1}
 @row rmelab replay --save a.json @in SCHEDULE @out REPORT @saves a.json IMAGE
 @row rmelab replay --image a.json --save b.json @file a.json IMAGE @out AGAIN_REPORT @saves b.json IMAGE @in
 rme 1 procs 64 limit 100 cap 1
@@ -72,10 +290,4 @@ lock 1
 step 1 5
 lock 0
 step 0 4
-";
-
-#[test]
-fn crash_of_everything(rt: HostRuntime) -> Result<(), Fail> {
-    let texts = texts(rt.alloc())?;
-    all_come_to(&rt, rt.alloc(), &[texts.as_str()], ROWS)
-}
+"#;

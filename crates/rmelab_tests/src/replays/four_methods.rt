@@ -1,7 +1,5 @@
 //! A machine with the four methods that its trait requires. The fifth has a default body.
 
-ghost use Rattle.std.specs.Prelude.{◌≡◌};
-
 use judge::{Deed, Judge};
 use rmecore::Refusal;
 use rmeworld::{Call, Image, Machine, Stepped, World};
@@ -21,14 +19,6 @@ impl Model for SteppedWorld {
     ghost Value = { WorldState };
 
     ghost view = { λ w. w.world };
-}
-
-impl SteppedWorld {
-    pub fn new(world: World) -> SteppedWorld
-        ensures { result ≡ world }
-    {
-        SteppedWorld { world }
-    }
 }
 
 impl Machine for SteppedWorld {
@@ -76,7 +66,9 @@ fn a_machine_with_four_methods_gives_the_same_report(rt: HostRuntime) -> Result<
     let schedule = read_schedule(rt.alloc(), SCHEDULE)
         .ok()
         .ok_or("a schedule")?;
-    let mut machine = SteppedWorld::new(World::new(rt.alloc(), 2, 10, 1, 1)?);
+    let mut machine = SteppedWorld {
+        world: World::new(rt.alloc(), 2, 10, 1, 1)?,
+    };
     let mut judge = Judge::new(rt.alloc(), 2, 1)?;
     let mut page = Page::new(rt.alloc());
     let verdict = replay_on(rt.alloc(), &mut machine, &mut judge, &schedule, &mut page);

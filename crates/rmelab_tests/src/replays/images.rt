@@ -1,9 +1,9 @@
 //! Replays that save an image, and replays that start from one.
 
-use crate::support::invocation::all_come_to;
-use std::test::Fail;
-
-const TEXTS: &str = r#"
+/// The stem of a search's lasso leaves the image that it leaves with the cycle twice after it: process 0 starves.
+/// The header has to name the image's sizes. A greater width widens the image. A broken image is refused with its rule.
+/// A line that is refused leaves no part of an object.
+pub const IMAGES: &str = r#"
 @text SMALLEST
 rme 1 procs 1 limit 10 cap 1
 lock 0
@@ -34,12 +34,6 @@ step 1 2
 rmelab: line 1: refused 9
 @text RULE_1
 rmelab: image: rule 1
-"#;
-
-/// The stem of a search's lasso leaves the image that it leaves with the cycle twice after it: process 0 starves.
-/// The header has to name the image's sizes. A greater width widens the image. A broken image is refused with its rule.
-/// A line that is refused leaves no part of an object.
-const IMAGES: &str = r#"
 @row rmelab replay --save a.json @in STEM @saves a.json STEM_IMAGE @out
 begin 0
 ready 0
@@ -169,8 +163,3 @@ consistent 0
 @err
 rmelab: line 4: refused 10
 "#;
-
-#[test]
-fn images(rt: HostRuntime) -> Result<(), Fail> {
-    all_come_to(&rt, rt.alloc(), &[TEXTS], IMAGES)
-}

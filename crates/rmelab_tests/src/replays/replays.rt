@@ -1,9 +1,6 @@
 //! Schedules, their reports, and a refusal after part of a report.
 
-use crate::support::invocation::all_come_to;
-use std::test::Fail;
-
-const REPLAYS: &str = "
+pub const REPLAYS: &str = "
 @row rmelab replay @name first-steps @in
 rme 1 procs 1 limit 1 cap 1
 lock 0
@@ -213,8 +210,3 @@ answer 0 clean
 @err
 rmelab: line 4: refused 13
 ";
-
-#[test]
-fn replays(rt: HostRuntime) -> Result<(), Fail> {
-    all_come_to(&rt, rt.alloc(), &[], REPLAYS)
-}

@@ -1,9 +1,6 @@
 //! Replays and traces as whole invocations: the words, standard input and files; then what is printed on both outputs, the
 //! exit status and the file that is saved.
 
-use crate::support::invocation::all_come_to;
-use std::test::Fail;
-
 /// Process 1 enters before 0, which was ready first, in `OVERTAKEN`; 0 enters in `IN_ORDER`.
 pub const TEXTS: &str = r#"
 @text SMALLEST
@@ -106,7 +103,7 @@ rmelab: bad variant
 "#;
 
 /// The image that `--save` asks for is in the ending of the command, and none is after a fault.
-const REPORTS_AND_IMAGES: &str = r#"
+pub const REPORTS_AND_IMAGES: &str = r#"
 @row rmelab replay @in SMALLEST @out REPORT
 @row rmelab replay s.rme @in OTHER @file s.rme SMALLEST @out REPORT
 @row rmelab replay --json @in SMALLEST @out OBJECT
@@ -184,8 +181,3 @@ rmelab: line 2: fault 6
 @row rmelab replay --save b.json @in MENDED_FIRST @out ENTERED @ends 2 @err LINE_4_REFUSED
 @row rmelab replay --save b.json @in ZERO_FIRST @ends 2 @err LINE_2_FAULT
 "#;
-
-#[test]
-fn reports_and_images(rt: HostRuntime) -> Result<(), Fail> {
-    all_come_to(&rt, rt.alloc(), &[TEXTS], REPORTS_AND_IMAGES)
-}

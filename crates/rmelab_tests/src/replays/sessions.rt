@@ -1,8 +1,5 @@
 //! Sessions: the lines of a schedule one by one, back and on again, saved, and refused.
 
-use crate::support::invocation::{all_come_to, program_comes_to};
-use std::test::Fail;
-
 /// A session with the header alone; one that goes back; and one over the header alone that saves, in a folder where that fails.
 pub const TEXTS: &str = "
 @text HEADED
@@ -70,7 +67,7 @@ rmelab: write failed
 
 /// What is refused or can't be read changes nothing, and is answered with the number of the schedule's next line.
 /// In one session a process waits for another, is seen in the doorway, and comes back after a crash.
-const SESSIONS: &str = "
+pub const SESSIONS: &str = "
 @row rmelab step @in HEADED @out AT_REST
 @row rmelab step a.rme @out AT_REST @file a.rme
 rme 1 procs 2 limit 10 cap 1
@@ -240,12 +237,8 @@ save FILE    write the schedule so far to a file, for replay
 help, quit
 ";
 
-#[test]
-fn sessions(rt: HostRuntime) -> Result<(), Fail> {
-    all_come_to(&rt, rt.alloc(), &[TEXTS], SESSIONS)
-}
-
-const A_SESSION_IS_SAVED: &str = "
+pub const A_SESSION_IS_SAVED: &str = "
+@program
 @row rmelab step @in
 rme 1 procs 2 limit 10 cap 1
 lock 1
@@ -282,8 +275,3 @@ lock 0
 @row rmelab step @in UNSAVED @fails file @out UNSAVED_TOLD
 @row rmelab step @in UNSAVED @fails file-memory @out UNSAVED_TOLD
 ";
-
-#[test]
-fn a_session_is_saved(rt: HostRuntime) -> Result<(), Fail> {
-    program_comes_to(&rt, rt.alloc(), &[TEXTS], A_SESSION_IS_SAVED)
-}

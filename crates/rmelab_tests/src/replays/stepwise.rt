@@ -1,8 +1,5 @@
 //! Replays that print each step: under a variant, from an image, as JSON, and up to a line that is refused.
 
-use crate::support::invocation::all_come_to;
-use std::test::Fail;
-
 pub const TEXTS: &str = r#"
 @text SMALLEST
 rme 1 procs 1 limit 10 cap 1
@@ -58,7 +55,7 @@ rmelab: write failed
 
 /// A process waits for one that has died, which then comes back. Under `no-look` the second process waits for nothing, and
 /// enters while the first is inside.
-const REPLAYS_STEP_BY_STEP: &str = r#"
+pub const REPLAYS_STEP_BY_STEP: &str = r#"
 @row rmelab replay --each @in SMALLEST @out TOLD
 @row rmelab replay --each --json @in SMALLEST @out LINES
 @row rmelab replay --each --save a.json @in SMALLEST @out TOLD @saves a.json SAVED
@@ -225,8 +222,3 @@ rmelab: read failed
 @row rmelab replay --each @in SMALLEST @fails write @ends 3 @err UNWRITTEN
 @row rmelab replay --each @in SMALLEST @fails flush @out TOLD @ends 3 @err UNWRITTEN
 "#;
-
-#[test]
-fn replays_step_by_step(rt: HostRuntime) -> Result<(), Fail> {
-    all_come_to(&rt, rt.alloc(), &[TEXTS], REPLAYS_STEP_BY_STEP)
-}

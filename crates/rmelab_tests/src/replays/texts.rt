@@ -1,9 +1,6 @@
 //! Texts that aren't schedules, and schedules whose first line or step is refused.
 
-use crate::support::invocation::all_come_to;
-use std::test::Fail;
-
-const HOSTILE_TEXTS: &str = "
+pub const HOSTILE_TEXTS: &str = "
 @row rmelab replay @ends 2 @err
 rmelab: line 1: fault 1
 @row rmelab replay @ends 2 @in
@@ -75,8 +72,3 @@ rme 1 procs 65 limit 10 cap 1
 @err
 rmelab: line 1: refused 1
 ";
-
-#[test]
-fn hostile_texts(rt: HostRuntime) -> Result<(), Fail> {
-    all_come_to(&rt, rt.alloc(), &[], HOSTILE_TEXTS)
-}

@@ -1,9 +1,6 @@
 //! Replays under variants, and traces.
 
-use crate::support::invocation::all_come_to;
-use std::test::Fail;
-
-const VARIANTS_AND_TRACES: &str = "
+pub const VARIANTS_AND_TRACES: &str = "
 @row rmelab replay --variant renumber @name between-two-words @ends 1 @in
 rme 1 procs 2 limit 10 cap 1
 lock 0
@@ -110,8 +107,3 @@ enter 1
 @out
 verdict fine
 ";
-
-#[test]
-fn variants_and_traces(rt: HostRuntime) -> Result<(), Fail> {
-    all_come_to(&rt, rt.alloc(), &[], VARIANTS_AND_TRACES)
-}

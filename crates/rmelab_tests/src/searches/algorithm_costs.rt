@@ -1,11 +1,6 @@
 //! The costs of algorithms. The schedules are those of the reference program of the format's second version, with the moves in the
 //! order in which `rmelab` tries them.
 
-use crate::searches::algorithm_runs;
-use crate::searches::named_texts::example_algorithms;
-use crate::support::invocation::{all_come_to, program_comes_to};
-use std::test::Fail;
-
 /// `COSTLY`: process 0 stores three times, and reads each of the other's words anew. `SHARED`: the other has read its flag before it
 /// stores again. `FREE`: nobody starts a lock. `ALONE_COSTS`: it reads the word, and stores twice. `SPINS`: it waits for itself.
 /// `NO_SEARCH`: what is printed for an option that does not go with `--mean`, or only with it.
@@ -81,7 +76,7 @@ For more information, try '--help'.
 
 /// Of those with `--mean` the first has the numbers of the reference program. Of one process the first passage costs 3, and each later
 /// one 2, as it has a copy of the word that it reads; written back, the first costs 2, and each later one nothing.
-const COSTS: &str = "
+pub const COSTS: &str = "
 @row rmelab cost --algorithm a.lock --model write-through --procs 2 @file a.lock PETERSON @out COSTLY
 @row rmelab cost --algorithm a.lock --model write-back --procs 2 --super-passages @file a.lock PETERSON @out SHARED
 @row rmelab cost --algorithm a.lock --model write-back --procs 2 --calls unlock @file a.lock PETERSON @out FREE
@@ -111,7 +106,8 @@ passages 0 cost 0
 @row rmelab cost --algorithm a.lock --model dsm --procs 2 --seed 1 @ends 2 @err NO_SEARCH
 ";
 
-const COSTS_THAT_FAIL: &str = "
+pub const COSTS_THAT_FAIL: &str = "
+@program
 @row rmelab cost --algorithm a.lock --model dsm --procs 2 @file a.lock HIDDEN @ends 2 @err
 rmelab: algorithm line 6: fault 7: a second access in one line
 @row rmelab cost --algorithm a.lock --model dsm --procs 2 @ends 3 @err UNREAD
@@ -121,11 +117,3 @@ rmelab: algorithm line 6: fault 7: a second access in one line
 rmelab: algorithm line 6: fault 7: a second access in one line
 @row rmelab cost --algorithm a.lock --model dsm --procs 2 --mean --steps 1 @file a.lock PETERSON @fails write @ends 3 @err UNWRITTEN
 ";
-
-#[test]
-fn costs_of_an_algorithm(rt: HostRuntime) -> Result<(), Fail> {
-    let algorithms = example_algorithms(rt.alloc())?;
-    let texts = [algorithms.as_str(), TEXTS, algorithm_runs::TEXTS];
-    all_come_to(&rt, rt.alloc(), &texts, COSTS)?;
-    program_comes_to(&rt, rt.alloc(), &texts, COSTS_THAT_FAIL)
-}

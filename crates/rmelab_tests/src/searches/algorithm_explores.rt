@@ -1,10 +1,5 @@
 //! Searches of algorithms. The schedules and the counts are those of the reference interpreter of the format.
 
-use crate::searches::explores;
-use crate::searches::named_texts::example_algorithms;
-use crate::support::invocation::{all_come_to, program_comes_to};
-use std::test::Fail;
-
 /// `TWO_AT_ONCE`: both read that nobody holds it before either has stored. `CRASH_INSIDE`: process 0 dies inside, comes back and
 /// gives way, and process 1 enters; `CRASH_OF_ALL`: so it does where all die. `STARVES`: process 1 sees the flag of process 0 each time. `OUT_OF_NUMBERS`: process 1 waits for no
 /// number, process 0 for its doorway. `LEFT_HELD`: process 0 waits for itself. `NO_MAILBOX`: the options of a
@@ -109,7 +104,7 @@ For more information, try '--help'.
 
 /// Words that are refused open no file. A schedule that is found replays to its fault; the cycle of one that starves comes back to
 /// the same words each time.
-const SEARCHES_OF_ALGORITHMS: &str = "
+pub const SEARCHES_OF_ALGORITHMS: &str = "
 @row rmelab explore --algorithm a.lock --procs 2 --limit 1 @file a.lock NO_LOOK @out SHORTEST @ends 1
 @row rmelab explore --procs 2 --algorithm a.lock --limit 1 --moves 20 --calls unlock,lock --jobs 3 @file a.lock NO_LOOK @out SHORTEST @ends 1
 @row rmelab explore --procs 2 --algorithm a.lock --limit 1 --moves 20 --calls unlock,lock --jobs 1 @file a.lock NO_LOOK @out SHORTEST @ends 1
@@ -248,18 +243,8 @@ words held 1
 verdict against 2 at 6
 ";
 
-#[test]
-fn searches_of_algorithms(rt: HostRuntime) -> Result<(), Fail> {
-    let algorithms = example_algorithms(rt.alloc())?;
-    all_come_to(
-        &rt,
-        rt.alloc(),
-        &[algorithms.as_str(), TEXTS, explores::TEXTS],
-        SEARCHES_OF_ALGORITHMS,
-    )
-}
-
-const SEARCHES_OF_ALGORITHMS_WHERE_DEVICES_FAIL: &str = "
+pub const SEARCHES_OF_ALGORITHMS_WHERE_DEVICES_FAIL: &str = "
+@program
 @row rmelab explore --algorithm a.lock --procs 2 @ends 3 @err UNREAD
 @row rmelab explore --algorithm a.lock --procs 2 @file a.lock PETERSON @fails file-read @ends 3 @err UNREAD
 @row rmelab explore --algorithm a.lock --procs 2 @file a.lock PETERSON @fails write @ends 3 @err UNWRITTEN
@@ -270,14 +255,3 @@ const SEARCHES_OF_ALGORITHMS_WHERE_DEVICES_FAIL: &str = "
 @row rmelab explore --algorithm a.lock --procs 2 --limit 1 --starving @file a.lock PETERSON @fails write @ends 3 @err UNWRITTEN
 @row rmelab explore --algorithm a.lock --procs 2 --limit 1 --crashes 1 @file a.lock PETERSON @fails flush @out CRASH_INSIDE @ends 3 @err UNWRITTEN
 ";
-
-#[test]
-fn searches_of_algorithms_where_devices_fail(rt: HostRuntime) -> Result<(), Fail> {
-    let algorithms = example_algorithms(rt.alloc())?;
-    program_comes_to(
-        &rt,
-        rt.alloc(),
-        &[algorithms.as_str(), TEXTS, explores::TEXTS],
-        SEARCHES_OF_ALGORITHMS_WHERE_DEVICES_FAIL,
-    )
-}

@@ -1,8 +1,7 @@
 //! Models of algorithms for other tools, and what is refused.
 
-use crate::searches::algorithm_runs;
-use crate::searches::named_texts::example_algorithms;
-use crate::support::invocation::{all_come_to, program_comes_to};
+use crate::searches::{algorithm_runs, named_texts};
+use crate::support::invocation::all_come_to;
 use algorithms_tests::models::{PETERSON, whole_model};
 use std::alloc::Global;
 use std::test::Fail;
@@ -23,6 +22,7 @@ const EXPORTS: &str = "
 ";
 
 const EXPORTS_THAT_FAIL: &str = "
+@program
 @row rmelab export --promela a.lock --procs 2 @file a.lock HIDDEN @ends 2 @err
 rmelab: algorithm line 6: fault 7: a second access in one line
 @row rmelab export --promela a.lock --procs 2 @ends 3 @err UNREAD
@@ -32,9 +32,8 @@ rmelab: algorithm line 6: fault 7: a second access in one line
 
 #[test]
 fn models_of_an_algorithm(rt: HostRuntime) -> Result<(), Fail> {
-    let algorithms = example_algorithms(rt.alloc())?;
     let models = models(rt.alloc())?;
-    let texts = [algorithms.as_str(), models.as_str(), algorithm_runs::TEXTS];
+    let texts = [models.as_str(), algorithm_runs::TEXTS, named_texts::SHARED];
     all_come_to(&rt, rt.alloc(), &texts, EXPORTS)?;
-    program_comes_to(&rt, rt.alloc(), &texts, EXPORTS_THAT_FAIL)
+    all_come_to(&rt, rt.alloc(), &texts, EXPORTS_THAT_FAIL)
 }

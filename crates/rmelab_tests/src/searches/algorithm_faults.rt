@@ -1,12 +1,10 @@
 //! Replays of algorithms where a text, a schedule, words or a file are at fault.
 
-use crate::searches::named_texts::example_algorithms;
-use crate::support::invocation::{all_come_to, program_comes_to};
-use std::alloc::Global;
+use crate::support::invocation::all_come_to;
 use std::test::Fail;
 
-const TEXTS: &str = "
-@text ALONE
+pub const TEXTS: &str = "
+@text NINE_STEPS
 rme 1 procs 2 limit 1 cap 1
 lock 0
 step 0 9
@@ -19,20 +17,20 @@ rmelab: read failed
 ";
 
 /// A fault of the text comes before one of the schedule. A step may have three deeds: four are refused.
-const TEXTS_THAT_ARE_REFUSED: &str = "
-@row rmelab replay --algorithm a.lock @in ALONE @ends 2 @file a.lock
+pub const TEXTS_THAT_ARE_REFUSED: &str = "
+@row rmelab replay --algorithm a.lock @in NINE_STEPS @ends 2 @file a.lock
 @err
 rmelab: algorithm line 1: fault 1: the first two lines are no header and promises
 @row rmelab replay --algorithm a.lock @ends 2 @in
 rme@file a.lock
 @err
 rmelab: algorithm line 1: fault 1: the first two lines are no header and promises
-@row rmelab replay --algorithm a.lock @in ALONE @file a.lock HIDDEN @ends 2 @err
+@row rmelab replay --algorithm a.lock @in NINE_STEPS @file a.lock HIDDEN @ends 2 @err
 rmelab: algorithm line 6: fault 7: a second access in one line
 @row rmelab replay --algorithm a.lock @file a.lock HIDDEN @ends 2 @in
 rme@err
 rmelab: algorithm line 6: fault 7: a second access in one line
-@row rmelab replay --algorithm a.lock @in ALONE @ends 2 @file a.lock
+@row rmelab replay --algorithm a.lock @in NINE_STEPS @ends 2 @file a.lock
 algorithm \0
 @err
 rmelab: algorithm line 1: fault 2: a character that means nothing here
@@ -41,7 +39,7 @@ rme@file a.lock
 algorithm \0
 @err
 rmelab: algorithm line 1: fault 2: a character that means nothing here
-@row rmelab replay --algorithm a.lock @in ALONE @ends 2 @file a.lock
+@row rmelab replay --algorithm a.lock @in NINE_STEPS @ends 2 @file a.lock
 algorithm a for 2 processes
 promises exclusion@err
 rmelab: algorithm line 2: fault 3: the last line is not ended by a line feed
@@ -50,12 +48,12 @@ rme@file a.lock
 algorithm a for 2 processes
 promises exclusion@err
 rmelab: algorithm line 2: fault 3: the last line is not ended by a line feed
-@row rmelab replay --algorithm a.lock @in ALONE @ends 2 @err LIMIT_PASSED @file a.lock
+@row rmelab replay --algorithm a.lock @in NINE_STEPS @ends 2 @err LIMIT_PASSED @file a.lock
 algorithm a for 18446744073709551616 processes
 @row rmelab replay --algorithm a.lock @ends 2 @err LIMIT_PASSED @in
 rme@file a.lock
 algorithm a for 18446744073709551616 processes
-@row rmelab replay --algorithm a.lock @in ALONE @ends 2 @file a.lock
+@row rmelab replay --algorithm a.lock @in NINE_STEPS @ends 2 @file a.lock
 algorithm a for 2 processes
 promises exclusion
 shared x
@@ -72,7 +70,7 @@ call lock
 v := ((((((((((((((((((1))))))))))))))))))
 @err
 rmelab: algorithm line 5: fault 16: a limit is passed
-@row rmelab replay --algorithm a.lock @in ALONE @ends 2 @file a.lock
+@row rmelab replay --algorithm a.lock @in NINE_STEPS @ends 2 @file a.lock
 algorithm a for 2 processes
 promises exclusion
 shared x
@@ -175,17 +173,6 @@ rmelab: line 3: refused 16
 @row rmelab replay --json --algorithm a.lock --save a.json @ends 2 @err BAD_VARIANT
 ";
 
-#[test]
-fn texts_that_are_refused(rt: HostRuntime) -> Result<(), Fail> {
-    let algorithms = example_algorithms(rt.alloc())?;
-    all_come_to(
-        &rt,
-        rt.alloc(),
-        &[algorithms.as_str(), TEXTS],
-        TEXTS_THAT_ARE_REFUSED,
-    )
-}
-
 /// Adds a text with this name: an algorithm whose own name has this number of letters.
 fn add_long_text(texts: &mut String, name: &str, letters: u64, end: &str) -> Result<(), Fail> {
     texts.push_str("@text ")?;
@@ -198,44 +185,31 @@ fn add_long_text(texts: &mut String, name: &str, letters: u64, end: &str) -> Res
     Ok(())
 }
 
-/// A megabyte in one line, and a name of 10,000 letters.
-fn long_texts(alloc: Global) -> Result<String, Fail> {
-    let mut texts = String::from_str(alloc, TEXTS)?;
-    add_long_text(&mut texts, "LONG", 1_000_000, "\n")?;
-    add_long_text(&mut texts, "LONG_NAME", 10_000, " for 2 processes\n")?;
-    Ok(texts)
-}
-
 const LONG_TEXTS_OF_ALGORITHMS: &str = "
-@row rmelab replay --algorithm a.lock @in ALONE @file a.lock LONG @ends 2 @err LIMIT_PASSED
-@row rmelab replay --algorithm a.lock @in ALONE @file a.lock LONG_NAME @ends 2 @err LIMIT_PASSED
+@program
+@row rmelab replay --algorithm a.lock @in NINE_STEPS @file a.lock LONG @ends 2 @err LIMIT_PASSED
+@row rmelab replay --algorithm a.lock @in NINE_STEPS @file a.lock LONG_NAME @ends 2 @err LIMIT_PASSED
 ";
 
+/// A megabyte in one line, and a name of 10,000 letters.
 #[test]
 fn long_texts_of_algorithms(rt: HostRuntime) -> Result<(), Fail> {
-    let texts = long_texts(rt.alloc())?;
-    program_comes_to(&rt, rt.alloc(), &[texts.as_str()], LONG_TEXTS_OF_ALGORITHMS)
+    let mut texts = String::new(rt.alloc());
+    add_long_text(&mut texts, "LONG", 1_000_000, "\n")?;
+    add_long_text(&mut texts, "LONG_NAME", 10_000, " for 2 processes\n")?;
+    let texts = [texts.as_str(), TEXTS];
+    all_come_to(&rt, rt.alloc(), &texts, LONG_TEXTS_OF_ALGORITHMS)
 }
 
-const ALGORITHMS_WHERE_DEVICES_FAIL: &str = "
-@row rmelab replay --algorithm b.lock @in ALONE @ends 3 @err UNREAD
-@row rmelab replay --algorithm a.lock @in ALONE @file a.lock PETERSON @fails file-read @ends 3 @err UNREAD
-@row rmelab replay --algorithm a.lock @in ALONE @file a.lock PETERSON @fails read @ends 3 @err UNREAD
-@row rmelab replay --algorithm a.lock @in ALONE @file a.lock PETERSON @fails write @ends 3 @err
+pub const ALGORITHMS_WHERE_DEVICES_FAIL: &str = "
+@program
+@row rmelab replay --algorithm b.lock @in NINE_STEPS @ends 3 @err UNREAD
+@row rmelab replay --algorithm a.lock @in NINE_STEPS @file a.lock PETERSON @fails file-read @ends 3 @err UNREAD
+@row rmelab replay --algorithm a.lock @in NINE_STEPS @file a.lock PETERSON @fails read @ends 3 @err UNREAD
+@row rmelab replay --algorithm a.lock @in NINE_STEPS @file a.lock PETERSON @fails write @ends 3 @err
 rmelab: write failed
 @row rmelab replay --algorithm a.lock @file a.lock PETERSON @ends 2 @in
 rme 1
 @err
 rmelab: line 1: fault 1
 ";
-
-#[test]
-fn algorithms_where_devices_fail(rt: HostRuntime) -> Result<(), Fail> {
-    let algorithms = example_algorithms(rt.alloc())?;
-    program_comes_to(
-        &rt,
-        rt.alloc(),
-        &[algorithms.as_str(), TEXTS],
-        ALGORITHMS_WHERE_DEVICES_FAIL,
-    )
-}

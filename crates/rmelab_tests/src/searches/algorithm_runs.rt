@@ -1,12 +1,10 @@
 //! Hunts, drawings and least schedules of algorithms: what they write, and what is refused.
 
-use crate::searches::named_texts::example_algorithms;
-use crate::support::invocation::{all_come_to, output_of, program_comes_to};
+use crate::support::invocation::output_of;
 use crate::support::row::text_named;
 use algorithms_tests::texts::others;
 use diagram::page_text::{PAGE_HEAD, PAGE_SCRIPT, PAGE_STEP};
 use std::alloc::Global;
-use std::process::Abort;
 use std::sync::Wait;
 use std::test::Fail;
 use std::thread::Threads;
@@ -138,34 +136,48 @@ words turn 1
 verdict fine
 ";
 
-/// What a hunt finds is made least, and both go wrong in a replay.
+/// A hunt, by threads, and with what it finds made least.
+const HUNTS: [&str; 4] = [
+    "rmelab hunt --algorithm a.lock --seed 1 --rounds 1000 --steps 100",
+    "rmelab hunt --algorithm a.lock --seed 1 --rounds 1000 --steps 100 --jobs 1",
+    "rmelab hunt --algorithm a.lock --seed 1 --rounds 1000 --steps 100 --jobs 3",
+    "rmelab hunt --algorithm a.lock --seed 1 --rounds 1000 --steps 100 --shrink",
+];
+
+const REPLAY: &str = "rmelab replay --algorithm a.lock";
+
+const SHRINK: &str = "rmelab shrink --algorithm a.lock";
+
+/// Whether a hunt by these words writes the same over this algorithm.
+fn finds(
+    rt: &(impl Threads + Wait + Sync),
+    alloc: Global,
+    line: &str,
+    text: &str,
+    schedule: &[u8],
+) -> Result<bool, Fail> {
+    let found = output_of(rt, alloc, line, text, b"", 1)?;
+    Ok(found.as_slice() == schedule)
+}
+
+/// Whether what a hunt finds is found by threads too, and is made least. Both go wrong in a replay.
 fn is_made_least(
-    rt: &(impl Threads + Wait + Sync + Abort),
+    rt: &(impl Threads + Wait + Sync),
     alloc: Global,
     text: &[u8],
 ) -> Result<bool, Fail> {
     let text = str::from_utf8(text)?;
-    let hunt = "rmelab hunt --algorithm a.lock --seed 1 --rounds 1000 --steps 100";
-    let replay = "rmelab replay --algorithm a.lock";
+    let [hunt, by_one, by_three, at_once] = HUNTS;
     let found = output_of(rt, alloc, hunt, text, b"", 1)?;
-    output_of(rt, alloc, replay, text, &found, 1)?;
-    let least = output_of(
-        rt,
-        alloc,
-        "rmelab shrink --algorithm a.lock",
-        text,
-        &found,
-        1,
-    )?;
-    output_of(rt, alloc, replay, text, &least, 1)?;
-    let at_once = format!(in alloc; "{hunt} --shrink")?;
-    let found_least = output_of(rt, alloc, &at_once, text, b"", 1)?;
-    for jobs in ["1", "3"] {
-        let by_threads = format!(in alloc; "{hunt} --jobs {jobs}")?;
-        let found_by_threads = output_of(rt, alloc, &by_threads, text, b"", 1)?;
-        assert!(rt; found_by_threads == found);
-    }
-    Ok(least.len() < found.len() && found_least == least)
+    let by_threads = finds(rt, alloc, by_one, text, &found)?
+        && finds(rt, alloc, by_three, text, &found)?;
+    output_of(rt, alloc, REPLAY, text, &found, 1)?;
+    let least = output_of(rt, alloc, SHRINK, text, &found, 1)?;
+    let is_shorter = least.len() < found.len();
+    drop(found);
+    output_of(rt, alloc, REPLAY, text, &least, 1)?;
+    let is_so = finds(rt, alloc, at_once, text, &least)?;
+    Ok(by_threads && is_shorter && is_so)
 }
 
 #[test]
@@ -177,7 +189,7 @@ fn hunted_schedules_are_made_least(rt: HostRuntime) -> Result<(), Fail> {
 }
 
 /// Words that are refused open no file.
-const COMMANDS_ON_AN_ALGORITHM: &str = "
+pub const COMMANDS_ON_AN_ALGORITHM: &str = "
 @row rmelab hunt --algorithm a.lock --seed 1 --rounds 1 --steps 3 --jobs 4 @file a.lock PETERSON @file b.rme ALONE @out
 nothing found
 @row rmelab hunt --algorithm a.lock --seed 1 --rounds 1 --steps 3 --shrink @file a.lock PETERSON @file b.rme ALONE @out NOTHING_FOUND
@@ -221,45 +233,50 @@ rmelab: line 1: refused 1
 ";
 
 /// Sessions that begin with the schedule of a file. The function `command` takes no such file.
-const SESSIONS_FROM_A_FILE: &str = "
+pub const SESSIONS_FROM_A_FILE: &str = "
+@program
 @row rmelab step --algorithm a.lock b.rme @file a.lock PETERSON @file b.rme ALONE @out BEGUN @in
 undo
 @row rmelab step --algorithm a.lock b.rme @file a.lock PETERSON @file b.rme REFUSED @err LINE_5 @ends 2 @in
 undo
 ";
 
-#[test]
-fn commands_on_an_algorithm(rt: HostRuntime) -> Result<(), Fail> {
-    let algorithms = example_algorithms(rt.alloc())?;
-    let texts = [algorithms.as_str(), TEXTS];
-    all_come_to(&rt, rt.alloc(), &texts, COMMANDS_ON_AN_ALGORITHM)?;
-    program_comes_to(&rt, rt.alloc(), &texts, SESSIONS_FROM_A_FILE)
+/// Whether the page of this schedule is the drawing and the lines of its run between fixed parts. All three end with this status.
+fn is_a_page(
+    rt: &(impl Threads + Wait + Sync),
+    alloc: Global,
+    schedule: &[u8],
+    status: u8,
+) -> Result<bool, Fail> {
+    let algorithm = str::from_utf8(others::PETERSON)?;
+    let draw = "rmelab draw --algorithm a.lock --svg";
+    let picture = output_of(rt, alloc, draw, algorithm, schedule, status)?;
+    let follow = "rmelab replay --algorithm a.lock --each --json";
+    let lines = output_of(rt, alloc, follow, algorithm, schedule, status)?;
+    let html = "rmelab draw --algorithm a.lock --html";
+    let page = output_of(rt, alloc, html, algorithm, schedule, status)?;
+    let picture = str::from_utf8(&picture)?;
+    let lines = str::from_utf8(&lines)?;
+    let mut rest = str::from_utf8(&page)?;
+    for part in [PAGE_HEAD, picture, PAGE_STEP, lines, PAGE_SCRIPT] {
+        rest = rest.strip_prefix(part).ok_or("no page")?;
+    }
+    Ok(rest.is_empty())
 }
 
-/// A page is the drawing and the lines of a run between fixed parts.
 #[test]
 fn pages_of_an_algorithm(rt: HostRuntime) -> Result<(), Fail> {
-    let algorithm = str::from_utf8(others::PETERSON)?;
-    for name in ["ALONE", "REFUSED"] {
-        let schedule = text_named(&[TEXTS], name).unwrap_or("").as_bytes();
-        let status = if name == "ALONE" { 0 } else { 2 };
-        let draw = "rmelab draw --algorithm a.lock --svg";
-        let picture = output_of(&rt, rt.alloc(), draw, algorithm, schedule, status)?;
-        let follow = "rmelab replay --algorithm a.lock --each --json";
-        let lines = output_of(&rt, rt.alloc(), follow, algorithm, schedule, status)?;
-        let html = "rmelab draw --algorithm a.lock --html";
-        let page = output_of(&rt, rt.alloc(), html, algorithm, schedule, status)?;
-        let picture = str::from_utf8(&picture)?;
-        let lines = str::from_utf8(&lines)?;
-        let expected = format!(in rt.alloc();
-            "{PAGE_HEAD}{picture}{PAGE_STEP}{lines}{PAGE_SCRIPT}"
-        )?;
-        assert!(rt; page.as_slice() == expected.as_bytes(), "{name}");
+    for (name, status) in [("ALONE", 0), ("REFUSED", 2)] {
+        let schedule = text_named("", &[TEXTS], name).unwrap_or("");
+        let is_so = is_a_page(&rt, rt.alloc(), schedule.as_bytes(), status)?;
+        assert!(rt; is_so, "{name}");
     }
     Ok(())
 }
 
-const COMMANDS_ON_AN_ALGORITHM_THAT_FAIL: &str = "
+/// A text at fault, a file that can't be read, and a device that fails.
+pub const COMMANDS_ON_AN_ALGORITHM_THAT_FAIL: &str = "
+@program
 @row rmelab hunt --algorithm a.lock --seed 1 --rounds 1 --steps 3 @in ALONE @file a.lock HIDDEN @ends 2 @err
 rmelab: algorithm line 6: fault 7: a second access in one line
 @row rmelab hunt --algorithm a.lock --seed 1 --rounds 1 --steps 3 @in ALONE @ends 3 @err UNREAD
@@ -286,15 +303,3 @@ rmelab: algorithm line 6: fault 7: a second access in one line
 @row rmelab step --algorithm a.lock @in HEADED @file a.lock PETERSON @fails read @out AT_REST @ends 3 @err UNREAD
 @row rmelab step --algorithm a.lock @in HEADED @file a.lock PETERSON @fails flush @out AT_REST @ends 3 @err UNWRITTEN
 ";
-
-/// A text at fault, a file that can't be read, and a device that fails.
-#[test]
-fn commands_on_an_algorithm_that_fail(rt: HostRuntime) -> Result<(), Fail> {
-    let algorithms = example_algorithms(rt.alloc())?;
-    program_comes_to(
-        &rt,
-        rt.alloc(),
-        &[algorithms.as_str(), TEXTS],
-        COMMANDS_ON_AN_ALGORITHM_THAT_FAIL,
-    )
-}

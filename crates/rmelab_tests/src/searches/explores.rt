@@ -100,7 +100,7 @@ rmelab: bad size
 /// Of the right lock without `unlock`, and without a call by which a crashed process comes back, a state is stuck. So is one
 /// after a crash inside where `consistent` is none of the calls: each unlock then ruins the lock. Of a wrong
 /// variant a schedule that goes wrong is written: under `no-ties` both have the number 1, and neither waits for the other.
-const EXPLORES: &str = "
+pub const EXPLORES: &str = "
 @row rmelab explore --variant no-look --procs 2 --limit 1 @out SHORTEST @ends 1
 @row rmelab explore --variant no-look --procs 2 --limit 1 --moves 20 --calls unlock,lock @out SHORTEST @ends 1
 @row rmelab explore --variant exit-on-crash --procs 1 --limit 1 --crashes 1 @out GONE_OUT @ends 1
@@ -197,11 +197,6 @@ For more information, try '--help'.
 @row rmelab explore --variant right --procs 2 --limit 1 --states 258 @fails err @ends 3
 ";
 
-#[test]
-fn explores(rt: HostRuntime) -> Result<(), Fail> {
-    all_come_to(&rt, rt.alloc(), &[TEXTS], EXPLORES)
-}
-
 const EXPLORES_STUCK_AT_LENGTH: &str = "
 @row rmelab explore --variant right --procs 2 --crashes 3 --stuck @out
 never stuck: all 46219 states
@@ -225,7 +220,7 @@ fn explored_schedules_replay(rt: HostRuntime) -> Result<(), Fail> {
         ("rmelab replay", "NOT_BACK", 0),
         ("rmelab replay", "UNMENDED", 0),
     ] {
-        let schedule = text_named(&[TEXTS], name).ok_or("no text")?;
+        let schedule = text_named("", &[TEXTS], name).ok_or("no text")?;
         output_of(&rt, rt.alloc(), line, "", schedule.as_bytes(), status)?;
     }
     Ok(())

@@ -18,7 +18,7 @@ const WRONG: [&str; 6] = [
 ];
 
 /// What seed 1 finds of this wrong variant.
-pub fn hunted(
+fn hunted(
     rt: &(impl Threads + Wait + Sync),
     alloc: Global,
     variant: &str,
@@ -56,28 +56,39 @@ fn is_fine(
     Ok(code == ExitCode::from(0) || code == ExitCode::from(2))
 }
 
-const HUNT_SEEDS: &str = "
-@row rmelab hunt --variant right --seed 1 --rounds 100 --steps 1000 @out
-nothing found
-@row rmelab hunt --variant right --seed 1 --first-round 9900 --rounds 100 --steps 100 @out
-nothing found
-@row rmelab hunt --variant right --seed 1 --first-round 9901 --rounds 100 --steps 100 @ends 2 @err
-rmelab: bad size
-";
+/// What `hunt --shrink` writes is what `shrink` makes of the schedule that the same hunt writes.
+fn shrinks_what_it_finds(
+    rt: &(impl Threads + Wait + Sync),
+    alloc: Global,
+    variant: &str,
+    found: &[u8],
+) -> Result<(), Fail> {
+    let line = format!(in alloc; "rmelab shrink --variant {variant}")?;
+    let least = output_of(rt, alloc, &line, "", found, 1)?;
+    let least = str::from_utf8(&least)?;
+    let row = format!(in alloc;
+        "@row rmelab hunt --shrink --variant {variant} --seed 1 --rounds 10000 --steps 1000 @ends 1 @out\n{least}"
+    )?;
+    all_come_to(rt, alloc, &[], &row)
+}
 
-/// What seed 1 finds of each wrong variant has a verdict against that variant, and none against the right lock.
+/// What seed 1 finds of each wrong variant has a verdict against that variant, and none against the right lock. Of two it is made
+/// least.
 #[test]
 fn hunt_seeds(rt: HostRuntime) -> Result<(), Fail> {
     for variant in WRONG {
         let found = hunted(&rt, rt.alloc(), variant)?;
         let is_so = is_against(&rt, rt.alloc(), variant, &found)?;
         assert!(rt; is_so && is_fine(&rt, rt.alloc(), &found)?, "{variant}");
+        if variant == "no-look" || variant == "exit-on-crash" {
+            shrinks_what_it_finds(&rt, rt.alloc(), variant, &found)?;
+        }
     }
-    all_come_to(&rt, rt.alloc(), &[TEXTS], HUNT_SEEDS)
+    Ok(())
 }
 
 /// The schedule that `running_judge/lab`, a program written by hand, draws by the same rule.
-const TEXTS: &str = "
+pub const HUNTS: &str = "
 @text DRAWN
 rme 1 procs 3 limit 1000000 cap 64
 lock 2
@@ -176,17 +187,15 @@ lock 2
 step 1
 step 0
 step 1
-";
-
-const MOVES_OF_A_HUNT: &str = "
 @row rmelab hunt --variant no-look --seed 70 --rounds 10000 --steps 1000 @out DRAWN @ends 1
 @row rmelab hunt --variant no-look --seed 70 --rounds 10000 --steps 1000 --jobs 1 @out DRAWN @ends 1
 @row rmelab hunt --variant no-look --seed 70 --rounds 10000 --steps 1000 --jobs 2 @out DRAWN @ends 1
 @row rmelab hunt --variant no-look --seed 70 --rounds 10000 --steps 1000 --jobs 3 @out DRAWN @ends 1
 @row rmelab hunt --variant no-look --seed 70 --rounds 10000 --steps 1000 --jobs 7 @out DRAWN @ends 1
+@row rmelab hunt --variant right --seed 1 --rounds 100 --steps 1000 @out
+nothing found
+@row rmelab hunt --variant right --seed 1 --first-round 9900 --rounds 100 --steps 100 @out
+nothing found
+@row rmelab hunt --variant right --seed 1 --first-round 9901 --rounds 100 --steps 100 @ends 2 @err
+rmelab: bad size
 ";
-
-#[test]
-fn moves_of_a_hunt(rt: HostRuntime) -> Result<(), Fail> {
-    all_come_to(&rt, rt.alloc(), &[TEXTS], MOVES_OF_A_HUNT)
-}

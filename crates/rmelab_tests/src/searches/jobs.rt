@@ -1,6 +1,7 @@
 //! A hunt or a search by any number of threads answers what that of one thread answers.
 
 use crate::support::watching::Report;
+use crashlab::hunts::hunt_watched;
 use crashlab::{HuntFault, Variant, hunt, hunt_in_parallel, hunt_in_parallel_watched};
 use explorer::Unwatched;
 use lock_explorer::{Bounds, Variables, shortest_schedule, shortest_schedule_in_parallel};
@@ -50,7 +51,8 @@ fn is_found(
     Ok(one.is_some())
 }
 
-/// Hunts by seed 1, of rounds of 1,000 moves, find a schedule of each wrong variant. The right lock has fewer rounds.
+/// Hunts by seed 1, of rounds of 1,000 moves, find a schedule of each wrong variant. The right lock has fewer rounds. Others have
+/// rounds of few moves, so that the one that finds is of a late batch, or none is.
 #[test]
 fn the_same_schedule_for_any_number_of_jobs(rt: HostRuntime) -> Result<(), Fail> {
     for variant in VARIANTS {
@@ -58,30 +60,11 @@ fn the_same_schedule_for_any_number_of_jobs(rt: HostRuntime) -> Result<(), Fail>
         let rounds = if is_wrong { 10_000 } else { 40 };
         let found = is_found(&rt, rt.alloc(), variant, 1, rounds, 1_000)?;
         assert!(rt; found == is_wrong, "{variant:?}");
-    }
-    Ok(())
-}
-
-/// Rounds of few moves, so that the one that finds is of a late batch, or none is.
-#[test]
-fn the_same_schedule_of_a_late_round(rt: HostRuntime) -> Result<(), Fail> {
-    for variant in VARIANTS {
         for (seed, rounds, steps) in [(1, 400, 60), (2, 333, 90), (3, 50, 20), (4, 1, 700)] {
             is_found(&rt, rt.alloc(), variant, seed, rounds, steps)?;
         }
     }
     Ok(())
-}
-
-/// The fault of a hunt by this number of jobs.
-fn fault_of(
-    rt: &(impl Threads + Sync),
-    alloc: Global,
-    jobs: u64,
-    rounds: u64,
-    steps: u64,
-) -> Option<HuntFault> {
-    hunt_in_parallel(rt, alloc, jobs, Variant::Right, 1, rounds, steps).err()
 }
 
 #[test]
@@ -93,8 +76,8 @@ fn a_hunt_by_jobs_is_refused_by_its_size(rt: HostRuntime) {
         (1, 10_001, HuntFault::BadSteps),
     ] {
         for jobs in JOBS {
-            let found = fault_of(&rt, rt.alloc(), jobs, rounds, steps);
-            assert!(rt; found == Some(fault), "{rounds} {steps} {jobs}");
+            let found = hunt_in_parallel(&rt, rt.alloc(), jobs, Variant::Right, 1, rounds, steps);
+            assert!(rt; found.err() == Some(fault), "{rounds} {steps} {jobs}");
         }
     }
 }
@@ -105,7 +88,9 @@ fn is_reported_once(
     alloc: Global,
     jobs: u64,
 ) -> Result<bool, HuntFault> {
-    let mut reports = Report::new(alloc);
+    let mut reports = Report {
+        all: Vec::new(alloc),
+    };
     let variant = Variant::Right;
     let found = hunt_in_parallel_watched(rt, alloc, jobs, variant, 1, 5, 10, &mut reports)?;
     let rounds = [(0, 0), (1, 10), (2, 20), (3, 30), (4, 40)];
@@ -113,7 +98,14 @@ fn is_reported_once(
 }
 
 #[test]
-fn each_round_of_a_batch_is_reported_once(rt: HostRuntime) -> Result<(), Fail> {
+fn each_round_is_reported_once(rt: HostRuntime) -> Result<(), Fail> {
+    let mut reports = Report {
+        all: Vec::new(rt.alloc()),
+    };
+    let found = hunt_watched(rt.alloc(), Variant::Right, 1, 4, 10, &mut reports)?;
+    let rounds = [(0, 0), (1, 10), (2, 20), (3, 30)];
+    assert!(rt; found.is_none() && reports.all.as_slice() == rounds.as_slice());
+    drop(reports);
     for jobs in JOBS {
         assert!(rt; is_reported_once(&rt, rt.alloc(), jobs)?, "{jobs}");
     }
@@ -129,15 +121,6 @@ const SEARCHES: [(Variant, u64, u64, u64); 6] = [
     (Variant::Renumber, 2, 1, 3),
     (Variant::ExitOnCrash, 2, 1, 1),
 ];
-
-/// The layout of a mailbox with one entry of one word for each process.
-fn least_mailbox(procs: u64) -> Layout {
-    Layout {
-        procs,
-        cap: 1,
-        width: 1,
-    }
-}
 
 const BOUNDS: Bounds = Bounds {
     crashes: 0,
@@ -187,14 +170,19 @@ fn searches_the_same(
     one.is_ok()
 }
 
-/// Plays each search, with states distinguished by these variables. None: each answers the same by several jobs.
+/// Plays each search, over a mailbox with one entry of one word for each process. These variables distinguish states. None: each
+/// answers the same by several jobs.
 fn first_different(
     rt: &(impl Threads + Sync),
     alloc: Global,
     variables: Variables,
 ) -> Option<Variant> {
     for (variant, procs, crashes, limit) in SEARCHES {
-        let layout = least_mailbox(procs);
+        let layout = Layout {
+            procs,
+            cap: 1,
+            width: 1,
+        };
         let bounds = Bounds { crashes, ..BOUNDS };
         if !searches_the_same(rt, alloc, variant, layout, limit, variables, &bounds) {
             return Some(variant);
@@ -205,12 +193,7 @@ fn first_different(
 
 #[test]
 fn the_same_search_for_any_number_of_jobs(rt: HostRuntime) {
-    let different = first_different(&rt, rt.alloc(), Variables::All);
-    assert!(rt; different.is_none(), "{different:?}");
-}
-
-#[test]
-fn the_same_search_by_live_variables_for_any_number_of_jobs(rt: HostRuntime) {
-    let different = first_different(&rt, rt.alloc(), Variables::Live);
-    assert!(rt; different.is_none(), "{different:?}");
+    let all = first_different(&rt, rt.alloc(), Variables::All);
+    let live = first_different(&rt, rt.alloc(), Variables::Live);
+    assert!(rt; all.is_none() && live.is_none(), "{all:?} {live:?}");
 }

@@ -1,11 +1,9 @@
 //! The texts of algorithms that the rows name.
 
 use algorithms_tests::texts::{bakeries, others, promises};
-use std::alloc::Global;
-use std::test::Fail;
 
 /// A text with a fault in line 6; and what is printed for words without a lock.
-const SHARED: &str = "
+pub const SHARED: &str = "
 @text HIDDEN
 algorithm hidden for 2 processes
 promises exclusion
@@ -36,14 +34,12 @@ const ALGORITHMS: [(&str, &[u8]); 8] = [
     ("FAIR_TEST_AND_SET", promises::FAIR_TEST_AND_SET),
 ];
 
-/// A script of the texts of algorithms.
-pub fn example_algorithms(alloc: Global) -> Result<String, Fail> {
-    let mut all = String::from_str(alloc, SHARED)?;
-    for (name, text) in ALGORITHMS {
-        all.push_str("@text ")?;
-        all.push_str(name)?;
-        all.push_str("\n")?;
-        all.push_str(str::from_utf8(text)?)?;
+/// The text of the algorithm with this name.
+pub fn algorithm_named(name: &str) -> Option<&'static str> {
+    for (known, text) in ALGORITHMS {
+        if known == name {
+            return str::from_utf8(text).ok();
+        }
     }
-    Ok(all)
+    None
 }

@@ -1,12 +1,5 @@
 //! Schedules shrunk by `shrink` and by `hunt --shrink`.
 
-use crate::searches::hunts::hunted;
-use crate::support::invocation::{all_come_to, output_of};
-use std::alloc::Global;
-use std::sync::Wait;
-use std::test::Fail;
-use std::thread::Threads;
-
 /// `TWO_INSIDE`: process 0 has read the numbers and not taken its own while 1 enters. Then 0 enters too. `LEAST`: process 1
 /// needs nine steps to enter, and 0 four after the five in its doorway.
 pub const TEXTS: &str = "
@@ -35,7 +28,7 @@ rmelab: read failed
 rmelab: write failed
 ";
 
-const SHRINKS: &str = "
+pub const SHRINKS: &str = "
 @row rmelab shrink --variant no-look @in TWO_INSIDE @out LEAST @ends 1
 @row rmelab shrink --variant no-look @in LEAST @out LEAST @ends 1
 @row rmelab shrink --variant no-look s.rme @in OTHER @file s.rme TWO_INSIDE @out LEAST @ends 1
@@ -66,38 +59,6 @@ rmelab: bad variant
 @row rmelab shrink --variant no-look @in TWO_INSIDE @fails flush @out LEAST @ends 3 @err UNWRITTEN
 @row rmelab shrink --variant no-look s.rme @in OTHER @fails file-memory @ends 3 @err
 rmelab: out of memory
-";
-
-#[test]
-fn shrinks(rt: HostRuntime) -> Result<(), Fail> {
-    all_come_to(&rt, rt.alloc(), &[TEXTS], SHRINKS)
-}
-
-/// What `hunt --shrink` writes is what `shrink` makes of the schedule that the same hunt writes.
-fn shrinks_what_it_finds(
-    rt: &(impl Threads + Wait + Sync),
-    alloc: Global,
-    variant: &str,
-) -> Result<(), Fail> {
-    let found = hunted(rt, alloc, variant)?;
-    let line = format!(in alloc; "rmelab shrink --variant {variant}")?;
-    let least = output_of(rt, alloc, &line, "", &found, 1)?;
-    let least = str::from_utf8(&least)?;
-    let row = format!(in alloc;
-        "@row rmelab hunt --shrink --variant {variant} --seed 1 --rounds 10000 --steps 1000 @ends 1 @out\n{least}"
-    )?;
-    all_come_to(rt, alloc, &[], &row)
-}
-
-const HUNTS_SHRUNK: &str = "
 @row rmelab hunt --shrink --variant right --seed 1 --rounds 1 --steps 100 @out
 nothing found
 ";
-
-#[test]
-fn hunts_shrunk(rt: HostRuntime) -> Result<(), Fail> {
-    for variant in ["no-look", "exit-on-crash"] {
-        shrinks_what_it_finds(&rt, rt.alloc(), variant)?;
-    }
-    all_come_to(&rt, rt.alloc(), &[TEXTS], HUNTS_SHRUNK)
-}

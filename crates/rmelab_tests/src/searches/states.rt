@@ -1,12 +1,8 @@
 //! The states of searches as lines of texts. The lines are computed by hand, from the words of a state.
 
-use crate::searches::named_texts::example_algorithms;
-use crate::support::invocation::{all_come_to, program_comes_to};
-use std::test::Fail;
-
 /// `FIRST`: of one process that may lock and unlock. `NARROW`: the same, by one character a word. `STILL`: it may only unlock, which is
 /// refused outside, so that no move leads anywhere. `NO_STATES`: the header alone. `NO_WORDS`: a key without words, which no state has.
-const TEXTS: &str = "
+pub const TEXTS: &str = "
 @text FIRST
 !states 1 words 68 digits 2 of right procs 1 calls lock unlock crashes 0 limit 4 cap 1 width 1
 000?0000000000000000000000000000000000000000000001000000000000000000000000000000000000000000000000000000000000000000000000000000000000000T
@@ -41,7 +37,7 @@ rmelab: states line 1: fault 1: this is no header of these states
 ";
 
 /// A lock leads out of the set of the first state alone. Where nothing moves, that set is closed, whatever the part.
-const STATES: &str = "
+pub const STATES: &str = "
 @row rmelab states first --variant right --procs 1 @out FIRST
 @row rmelab states first --variant right --procs 1 --calls unlock,lock --words 0 @out FIRST
 @row rmelab states first --variant right --procs 1 --digits 1 @out NARROW
@@ -92,13 +88,8 @@ rmelab: bad variant
 @row rmelab states expand --algorithm a.lock --procs 2 @file a.lock PETERSON @in STILL @ends 2 @err OTHER_HEADER
 ";
 
-#[test]
-fn states(rt: HostRuntime) -> Result<(), Fail> {
-    let algorithms = example_algorithms(rt.alloc())?;
-    all_come_to(&rt, rt.alloc(), &[algorithms.as_str(), TEXTS], STATES)
-}
-
-const STATES_WHERE_DEVICES_FAIL: &str = "
+pub const STATES_WHERE_DEVICES_FAIL: &str = "
+@program
 @row rmelab states first --variant right --procs 1 @fails write @ends 3 @err UNWRITTEN
 @row rmelab states expand --variant right --procs 1 --calls unlock @in STILL @fails read @ends 3 @err UNREAD
 @row rmelab states expand --variant right --procs 1 --calls unlock @in STILL @fails write @ends 3 @err UNWRITTEN
@@ -108,8 +99,3 @@ const STATES_WHERE_DEVICES_FAIL: &str = "
 @row rmelab states walk --variant right --procs 1 --calls unlock @in STILL @fails read @ends 3 @err UNREAD
 @row rmelab states first --algorithm a.lock --procs 2 @ends 3 @err UNREAD
 ";
-
-#[test]
-fn states_where_devices_fail(rt: HostRuntime) -> Result<(), Fail> {
-    program_comes_to(&rt, rt.alloc(), &[TEXTS], STATES_WHERE_DEVICES_FAIL)
-}

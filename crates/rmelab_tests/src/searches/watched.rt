@@ -1,29 +1,14 @@
-//! The progress of a search or a hunt, as it is reported and as it is shown.
+//! The progress of a search or a hunt, as it is shown.
 
-use crate::searches::explores;
-use crate::support::invocation::all_come_to;
-use crate::support::watching::Report;
-use crashlab::Variant;
-use crashlab::hunts::hunt_watched;
-use std::test::Fail;
-
-#[test]
-fn each_round_is_reported_once(rt: HostRuntime) -> Result<(), Fail> {
-    let mut reports = Report::new(rt.alloc());
-    let found = hunt_watched(rt.alloc(), Variant::Right, 1, 4, 10, &mut reports)?;
-    let rounds = [(0, 0), (1, 10), (2, 20), (3, 30)];
-    assert!(rt; found.is_none() && reports.all.as_slice() == rounds.as_slice());
-    Ok(())
-}
-
-const TEXTS: &str = "
+/// The clock is read when the work begins, and then at each 64th state or round. Each tenth reading after the first one is
+/// another second later. So progress is shown before the 640th and the 1280th round, and when the 640th state is tried. The
+/// counts of states are those of the plain search in bench/explore.
+/// If standard error isn't a terminal, nothing is shown.
+pub const SHOWN: &str = "
 @text NOTHING_FOUND
 nothing found
 @text ALL_925
 nothing found: all 925 states
-";
-
-const SHOWN_ON_A_TERMINAL: &str = "
 @row rmelab hunt --variant right --seed 1 --rounds 1300 --steps 10 @shown
 \r639 rounds, 6390 moves, 6390 moves a second\x1b[K\r1279 rounds, 12790 moves, 6395 moves a second\x1b[K\r\x1b[K@out NOTHING_FOUND
 @row rmelab explore --variant right --procs 2 --jobs 1 @shown
@@ -34,28 +19,6 @@ const SHOWN_ON_A_TERMINAL: &str = "
 @fails shown
 @row rmelab explore --variant no-look --procs 2 --limit 1 @ends 1 @shown
 @out SHORTEST
-";
-
-/// The clock is read when the work begins, and then at each 64th state or round. Each tenth reading after the first one is
-/// another second later. So progress is shown before the 640th and the 1280th round, and when the 640th state is tried. The
-/// counts of states are those of the plain search in bench/explore.
-#[test]
-fn shown_on_a_terminal(rt: HostRuntime) -> Result<(), Fail> {
-    all_come_to(
-        &rt,
-        rt.alloc(),
-        &[explores::TEXTS, TEXTS],
-        SHOWN_ON_A_TERMINAL,
-    )
-}
-
-const SHOWN_ON_NO_TERMINAL: &str = "
 @row rmelab hunt --variant right --seed 1 --rounds 1300 --steps 10 @out NOTHING_FOUND
 @row rmelab explore --variant right --procs 2 --jobs 1 @out ALL_925
 ";
-
-/// If standard error isn't a terminal, nothing is shown.
-#[test]
-fn shown_on_no_terminal(rt: HostRuntime) -> Result<(), Fail> {
-    all_come_to(&rt, rt.alloc(), &[TEXTS], SHOWN_ON_NO_TERMINAL)
-}

@@ -5,7 +5,6 @@ use crate::support::invocation::{all_written, words_of};
 use crate::support::row::ProgramRow;
 use cli::arguments::args::Command;
 use cli::arguments::words::{WordsFault, read_words};
-use commands::Ending;
 use commands::command::command;
 use schedule::{Page, Text};
 use std::alloc::Global;
@@ -35,21 +34,6 @@ fn refuses(row: &ProgramRow<'_>, fault: &WordsFault) -> Result<(), Fail> {
     all_written(row.line, &[("words", found, wanted)])
 }
 
-/// Compares what the command has written, its status and what is to be saved with what the row says.
-fn ends(row: &ProgramRow<'_>, ending: &Ending, out: &[u8], err: &[u8]) -> Result<(), Fail> {
-    let (_, wanted) = row.saved;
-    let save = ending.save.as_deref();
-    if ending.status != row.status || save.is_none() != wanted.is_empty() {
-        return Err(Fail::new(format_args!("{}: {}", row.line, ending.status)));
-    }
-    let places = [
-        ("output of the command", out, row.printed),
-        ("fault of the command", err, row.reports),
-        ("save of the command", save.unwrap_or(b""), wanted),
-    ];
-    all_written(row.line, &places)
-}
-
 /// Carries out the command over these texts, and compares what it writes, its status, and what is to be saved.
 fn carries_out(
     rt: &(impl Threads + Wait + Sync),
@@ -63,7 +47,17 @@ fn carries_out(
     let mut out = Page::new(alloc);
     let mut err = Page::new(alloc);
     let ending = command(rt, alloc, order, image, &mut source, &mut out, &mut err);
-    ends(row, &ending, out.as_slice(), err.as_slice())
+    let (_, wanted) = row.saved;
+    let save = ending.save.as_deref();
+    if ending.status != row.status || save.is_none() != wanted.is_empty() {
+        return Err(Fail::new(format_args!("{}: {}", row.line, ending.status)));
+    }
+    let places = [
+        ("output of the command", out.as_slice(), row.printed),
+        ("fault of the command", err.as_slice(), row.reports),
+        ("save of the command", save.unwrap_or(b""), wanted),
+    ];
+    all_written(row.line, &places)
 }
 
 /// Carries out the command over the files that it names. A row whose file isn't there is one of the program alone.

@@ -65,14 +65,8 @@ impl Write for Paper<'_> {
 /// A clock that advances by a tenth of a second each time it is read.
 #[derive(Drop)]
 pub struct Ticking {
-    read: Cell<u64>,
-}
-
-impl Ticking {
-    /// A clock that has not been read.
-    pub fn new() -> Ticking {
-        Ticking { read: Cell::new(0) }
-    }
+    /// How often it has been read.
+    pub read: Cell<u64>,
 }
 
 impl Clock for Ticking {

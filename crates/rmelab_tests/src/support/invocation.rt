@@ -10,6 +10,7 @@ use cli::arguments::words::WordsFault;
 use commands::Terminal;
 use commands::program::run_program;
 use std::alloc::{AllocError, Global};
+use std::cell::Cell;
 use std::io::BufWriter;
 use std::process::ExitCode;
 use std::sync::Wait;
@@ -62,7 +63,7 @@ pub fn printed_by(
         flush_fails: row.failing == Failing::Flush,
     };
     let errors = paper(&mut err, row.failing == Failing::Report);
-    let clock = Ticking::new();
+    let clock = Ticking { read: Cell::new(0) };
     let mut shown = Vec::new(alloc);
     let lines = paper(&mut shown, row.failing == Failing::Shown);
     let mut screen = Terminal::new(&clock, lines, row.is_terminal);
@@ -93,7 +94,7 @@ pub fn all_written(line: &str, places: &[(&str, &[u8], &str)]) -> Result<(), Fai
     for (place, found, wanted) in places {
         if *found != wanted.as_bytes() {
             let found = str::from_utf8(found).unwrap_or("no text");
-            return Err(Fail::new(format_args!("{line}: {place}: {found}")));
+            return Err(Fail::new(format_args!("{line}: {place}: {found}\nin place of: {wanted}")));
         }
     }
     Ok(())
@@ -126,79 +127,49 @@ pub fn comes_to(
     is_as_expected(&found, row)
 }
 
-/// How a row is played.
-#[derive(Clone, Copy, PartialEq, Eq)]
-enum Manner {
-    /// The program is run.
-    Program,
-    /// The program is run; and so are `read_words` and `command` alone.
-    ProgramAndCommand,
-    /// The program is run, and each request for memory is refused in turn.
-    RefusedMemory,
-}
-
+/// Plays a row of a script with this head. With `@memory` each request for memory is refused in turn. Else the program is run; and so
+/// are, without `@program`, `read_words` and `command` alone.
 fn is_played(
     rt: &(impl Threads + Wait + Sync),
     alloc: Global,
+    head: &str,
     row: &ProgramRow<'_>,
-    manner: Manner,
 ) -> Result<(), Fail> {
-    if manner == Manner::RefusedMemory {
+    if head.contains("@memory") {
         return meets_refusals(rt, alloc, row);
     }
     comes_to(rt, alloc, Ok(words_of(alloc, row.line)?), row)?;
-    if manner == Manner::Program {
+    if head.contains("@program") {
         return Ok(());
     }
     comes_to_alone(rt, alloc, row)
 }
 
-/// Plays each row of the script. The names in it are those of these scripts of texts.
+/// Plays each row of the script. The names in it are those of its head, of these scripts of texts, or of algorithms.
 fn all_are_played<'a>(
     rt: &(impl Threads + Wait + Sync),
     alloc: Global,
     texts: &[&'a str],
-    rows: &'a str,
-    manner: Manner,
+    script: &'a str,
 ) -> Result<(), Fail> {
-    let (_, rows) = rows.split_once("@row ").ok_or("no row")?;
-    for script in rows.split("@row ") {
-        let Some(row) = ProgramRow::read(script, texts) else {
-            return Err(Fail::new(format_args!("no row: {script}")));
+    let (head, rows) = script.split_once("@row ").ok_or("no row")?;
+    for part in rows.split("@row ") {
+        let Some(row) = ProgramRow::read(part, head, texts) else {
+            return Err(Fail::new(format_args!("no row: {part}")));
         };
-        is_played(rt, alloc, &row, manner)?;
+        is_played(rt, alloc, head, &row)?;
     }
     Ok(())
 }
 
-/// Runs the program as each row says, and compares its whole output; and so `read_words` and `command` alone.
+/// Plays each row of the script, and compares its whole output.
 pub fn all_come_to(
     rt: &(impl Threads + Wait + Sync),
     alloc: Global,
     texts: &[&str],
-    rows: &str,
+    script: &str,
 ) -> Result<(), Fail> {
-    all_are_played(rt, alloc, texts, rows, Manner::ProgramAndCommand)
-}
-
-/// Runs the program alone as each row says, and compares its whole output.
-pub fn program_comes_to(
-    rt: &(impl Threads + Wait + Sync),
-    alloc: Global,
-    texts: &[&str],
-    rows: &str,
-) -> Result<(), Fail> {
-    all_are_played(rt, alloc, texts, rows, Manner::Program)
-}
-
-/// Each request for memory of each of the rows is refused in turn.
-pub fn all_meet_refusals(
-    rt: &(impl Threads + Wait + Sync),
-    alloc: Global,
-    texts: &[&str],
-    rows: &str,
-) -> Result<(), Fail> {
-    all_are_played(rt, alloc, texts, rows, Manner::RefusedMemory)
+    all_are_played(rt, alloc, texts, script)
 }
 
 /// What the program prints on these words over this input, in a folder where `a.lock` is this text. It has to end with this

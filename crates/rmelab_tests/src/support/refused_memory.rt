@@ -56,7 +56,7 @@ fn meets_a_refusal(
     words: Vec<String>,
     row: &ProgramRow<'_>,
 ) -> Result<bool, Fail> {
-    let mut out = [0; 2048];
+    let mut out = [0; 16384];
     let mut err = [0; 256];
     let code = ends(rt, alloc, words, row, &mut out, &mut err);
     let is_refused = code == ExitCode::from(3);
@@ -74,34 +74,24 @@ fn meets_a_refusal(
     Err(Fail::new(format_args!("{}: {code:?}", row.line)))
 }
 
-/// The number of requests of the program that are refused until it meets no refusal. As many as there are pieces: it always
-/// does.
-fn refusals(
-    rt: &(impl Threads + Wait + Sync),
-    alloc: Global,
-    row: &ProgramRow<'_>,
-) -> Result<usize, Fail> {
-    let mut all = all_words(alloc, row.line)?;
-    let mut scarce_memory = ScarceMemory::new(alloc)?;
-    for refused in 0..PIECES {
-        let words = all.pop().unwrap_or(Vec::new(alloc));
-        if !meets_a_refusal(rt, alloc, words, row)? {
-            return Ok(refused);
-        }
-        scarce_memory.give_back();
-    }
-    Ok(PIECES)
-}
-
-/// Each request for memory of the row is refused in turn: it has some, and at the end it meets no refusal.
+/// Each request for memory of the row is refused in turn: it has some, and at the end it meets no refusal. It always meets one
+/// less than there are pieces.
 pub fn meets_refusals(
     rt: &(impl Threads + Wait + Sync),
     alloc: Global,
     row: &ProgramRow<'_>,
 ) -> Result<(), Fail> {
-    let refused = refusals(rt, alloc, row)?;
-    if 0 < refused && refused < PIECES {
-        return Ok(());
+    let mut all = all_words(alloc, row.line)?;
+    let mut scarce_memory = ScarceMemory::new(alloc)?;
+    for refused in 0..PIECES {
+        let words = all.pop().unwrap_or(Vec::new(alloc));
+        if !meets_a_refusal(rt, alloc, words, row)? {
+            if refused == 0 {
+                break;
+            }
+            return Ok(());
+        }
+        scarce_memory.give_back();
     }
-    Err(Fail::new(format_args!("{}: {refused} refused", row.line)))
+    Err(Fail::new(format_args!("{}: no refusal, or always", row.line)))
 }

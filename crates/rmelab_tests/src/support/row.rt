@@ -4,8 +4,10 @@
 //! and `@err` what is written to the two outputs, `@shown` what a terminal shows, `@file NAME` one of two files in the folder,
 //! `@saves NAME` the file that is written, `@fails DEVICE` the device that fails, and `@ends` the exit status. The text of a
 //! part is what follows its line, or its name is in that line: a script of texts has `@text NAME` before each. `@name` is the
-//! name of a worked row, and only to be read.
+//! name of a worked row, and only to be read. What stands before the first row is the head of the script: texts, and with
+//! `@program` or `@memory` how its rows are played.
 
+use crate::searches::named_texts::algorithm_named;
 use crate::support::fake::Failing;
 use test_support::text::cut;
 
@@ -24,17 +26,28 @@ pub struct ProgramRow<'a> {
     pub status: u8,
 }
 
-/// The text with this name, in one of these scripts of texts.
-pub fn text_named<'a>(texts: &[&'a str], name: &str) -> Option<&'a str> {
-    for script in texts {
-        for definition in script.split("@text ") {
-            let mut text = definition;
-            if cut(&mut text, "\n") == name {
-                return Some(text);
-            }
+/// The text with this name in a script of texts.
+fn text_in<'a>(script: &'a str, name: &str) -> Option<&'a str> {
+    for definition in script.split("@text ") {
+        let mut text = definition;
+        if cut(&mut text, "\n") == name {
+            return Some(text);
         }
     }
     None
+}
+
+/// The text with this name, in the head of a script, in one of these scripts of texts, or of an algorithm.
+pub fn text_named<'a>(head: &'a str, texts: &[&'a str], name: &str) -> Option<&'a str> {
+    if let Some(text) = text_in(head, name) {
+        return Some(text);
+    }
+    for script in texts {
+        if let Some(text) = text_in(script, name) {
+            return Some(text);
+        }
+    }
+    algorithm_named(name)
 }
 
 const DEVICES: [(&str, Failing); 8] = [
@@ -58,16 +71,6 @@ fn device_named(name: &str) -> Option<Failing> {
     None
 }
 
-/// An exit status of the program.
-fn status_named(name: &str) -> Option<u8> {
-    for (known, status) in [("0", 0), ("1", 1), ("2", 2), ("3", 3)] {
-        if known == name {
-            return Some(status);
-        }
-    }
-    None
-}
-
 impl<'a> ProgramRow<'a> {
     /// With these words nothing is expected, and nothing is there to be read.
     pub fn new(line: &'a str) -> ProgramRow<'a> {
@@ -85,27 +88,28 @@ impl<'a> ProgramRow<'a> {
         }
     }
 
-    /// Reads a row, from its words on. None: it has no parts, or one that is unknown.
-    pub fn read(script: &'a str, texts: &[&'a str]) -> Option<ProgramRow<'a>> {
-        let mut rest = script;
+    /// Reads a row, from its words on. Its names are those of the head of its script, of these scripts of texts, or of algorithms.
+    /// None: it has no parts, or one that is unknown.
+    pub fn read(part: &'a str, head: &'a str, texts: &[&'a str]) -> Option<ProgramRow<'a>> {
+        let mut rest = part;
         let words = cut(&mut rest, "@");
         let mut row = ProgramRow::new(words.strip_suffix(" ").unwrap_or(words));
         for part in rest.split("@") {
-            row.set(part, texts)?;
+            row.set(part, head, texts)?;
         }
         Some(row)
     }
 
     /// Sets a part of the row.
-    fn set(&mut self, part: &'a str, texts: &[&'a str]) -> Option<()> {
-        let (head, body) = part.split_once("\n").unwrap_or((part, ""));
-        let mut names = head.trim();
+    fn set(&mut self, part: &'a str, head: &'a str, texts: &[&'a str]) -> Option<()> {
+        let (line, body) = part.split_once("\n").unwrap_or((part, ""));
+        let mut names = line.trim();
         let word = cut(&mut names, " ");
         if word == "name" {
             return Some(());
         }
         if word == "ends" {
-            self.status = status_named(names)?;
+            self.status = names.parse().unwrap_or(u8::MAX);
             return Some(());
         }
         if word == "fails" {
@@ -117,7 +121,7 @@ impl<'a> ProgramRow<'a> {
         let text = if names.is_empty() {
             body
         } else {
-            text_named(texts, names)?
+            text_named(head, texts, names)?
         };
         self.set_text(word, file, text)
     }

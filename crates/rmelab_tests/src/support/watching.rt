@@ -1,21 +1,11 @@
 //! Keeps the progress of a hunt or a search, for a test to compare.
 
 use explorer::Watch;
-use std::alloc::Global;
 
 /// Keeps the progress that is reported to it. What it has no memory for is dropped.
 #[derive(Drop)]
 pub struct Report {
     pub all: Vec<(u64, u64)>,
-}
-
-impl Report {
-    /// No progress yet.
-    pub fn new(alloc: Global) -> Report {
-        Report {
-            all: Vec::new(alloc),
-        }
-    }
 }
 
 impl Watch for Report {

@@ -1,13 +1,14 @@
 //! Each request for memory of searches, of schedules that are shrunk, and of commands on algorithms is refused in turn.
 
-use crate::searches::named_texts::example_algorithms;
 use crate::searches::{
-    algorithm_costs, algorithm_explores, algorithm_exports, algorithm_runs, explores, shrinks,
+    algorithm_costs, algorithm_explores, algorithm_exports, algorithm_runs, explores, named_texts,
+    shrinks,
 };
-use crate::support::invocation::all_meet_refusals;
+use crate::support::invocation::all_come_to;
 use std::test::Fail;
 
 const OUT_OF_MEMORY: &str = "
+@memory
 @row rmelab shrink --variant right @out FINE @in
 rme 1 procs 1 limit 10 cap 1
 lock 0
@@ -26,6 +27,7 @@ nothing found within 3 moves
 nothing found
 @row rmelab shrink --algorithm a.lock @in ALONE @file a.lock PETERSON @out FINE
 @row rmelab draw --algorithm a.lock @in ALONE @file a.lock PETERSON @out ALONE_DRAWN
+@row rmelab export --promela a.lock --procs 2 --limit 1 --crashes 1 @file a.lock PETERSON @out PETERSON_MODEL
 @row rmelab replay --algorithm a.lock @in ALONE @file a.lock PETERSON @out ALONE_TOLD
 @row rmelab replay --algorithm a.lock --each @in ALONE @file a.lock PETERSON @out ALONE_BY_STEPS
 @row rmelab replay --algorithm a.lock --json @in ALONE @file a.lock PETERSON @out ALONE_AS_OBJECT
@@ -36,21 +38,16 @@ undo
 ";
 
 #[test]
-fn out_of_memory(rt: HostRuntime) -> Result<(), Fail> {
-    let algorithms = example_algorithms(rt.alloc())?;
+fn searches(rt: HostRuntime) -> Result<(), Fail> {
     let models = algorithm_exports::models(rt.alloc())?;
-    all_meet_refusals(
-        &rt,
-        rt.alloc(),
-        &[
-            algorithms.as_str(),
-            models.as_str(),
-            algorithm_runs::TEXTS,
-            algorithm_costs::TEXTS,
-            algorithm_explores::TEXTS,
-            explores::TEXTS,
-            shrinks::TEXTS,
-        ],
-        OUT_OF_MEMORY,
-    )
+    let texts = [
+        models.as_str(),
+        algorithm_runs::TEXTS,
+        algorithm_costs::TEXTS,
+        algorithm_explores::TEXTS,
+        explores::TEXTS,
+        named_texts::SHARED,
+        shrinks::TEXTS,
+    ];
+    all_come_to(&rt, rt.alloc(), &texts, OUT_OF_MEMORY)
 }

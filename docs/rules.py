@@ -18,7 +18,7 @@ MOST_LINES_OF_A_BODY = 40
 WIDEST_CLAUSE = 140  # Bytes.
 MOST_NOUNS = 40
 MOST_DOUBLE_NAMES = 4
-MOST_WORDS = 37_190
+MOST_WORDS = 37_300
 MOST_HEADLINES = 2
 HEADLINE = "nobody enters before the process that crashed there has entered again"
 

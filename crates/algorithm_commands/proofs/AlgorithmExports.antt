@@ -26,6 +26,3 @@ module _ (a : InitializedAlgorithm) (args : ExportArgs) (now : Tape) where
   pub ends_refused : (e : AlgorithmRefusal) → IsNoModelOf a args.procs args.limit args.crashes (Refused e) → ExportsAlgorithm a args now now (Err BadSize)
   ends_refused e refused =
       inr (inl (refl, record { sizes = inl (λ none. absurd (cc)); silent = record { taken = refl; fine = refl } }))
-
-  pub ends_great : IsNoModelOf a args.procs args.limit args.crashes TooGreat → ExportsAlgorithm a args now now (Err BadSize)
-  ends_great great = inr (inl (refl, record { sizes = inr great; silent = record { taken = refl; fine = refl } }))

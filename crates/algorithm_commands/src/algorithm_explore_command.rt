@@ -1,11 +1,12 @@
 //! The command `explore` on an algorithm's text.
 
 ghost use Rattle.std.specs.Prelude.{◌≡◌, false, unwrap_or, IfErr, IfOk, OnOk, Some, option_copied};
-ghost use Rattle.algorithm_commands.specs.AlgorithmExplores.{AlgorithmExploreEnds, AlgorithmBothEnd, AlgorithmShortestEnds, AlgorithmStarvingEnds, AlgorithmStuckEnds, all_line_but, none_status, ExploresAlgorithm, calls_had as had_calls, calls_listed as listed_calls, calls_of as calls_asked, schedule_of as schedule_by, searches_progress as progress_searched};
+ghost use Rattle.algorithm_commands.specs.AlgorithmExplores.{AlgorithmExploreEnds, AlgorithmBothEnd, AlgorithmShortestEnds, AlgorithmStarvingEnds, AlgorithmStuckEnds, all_line_but, ExploresAlgorithm, ExploresJudged, calls_had as had_calls, calls_listed as listed_calls, calls_of as calls_asked, schedule_of as schedule_by, searches_progress as progress_searched};
 ghost use Rattle.algorithm_commands.specs.AlgorithmFindings.{line_by, world_call};
 ghost use Rattle.command_parts.specs.Endings.{IsEnded, Prints};
 ghost use Rattle.schedule.specs.Schedules.{spelling};
 
+use crate::algorithm_range::tell_in_range;
 use crate::algorithm_replay_command::algorithm_read;
 use crate::algorithm_starvation::tell_starving;
 use crate::algorithm_stuck::tell_stuck;
@@ -14,7 +15,7 @@ use algorithm_explorer::{
     AlgorithmBounds, AlgorithmExploreFault, AlgorithmMove, CrashesLeft, LeftOut, SearchOutcome,
     shortest_algorithm_schedule_in_parallel,
 };
-use algorithms::{AlgorithmCall, Entries, InitializedAlgorithm, ProgressPromise, Promises};
+use algorithms::{AlgorithmCall, Entries, InitializedAlgorithm, ProgressPromise};
 use cli::arguments::args::{AlgorithmCalls, AlgorithmExploreArgs, Cycles};
 use command_parts::findings::{tell_all, tell_schedule, tell_text, tell_within};
 use command_parts::options::{jobs_of, put_call};
@@ -133,32 +134,24 @@ pub(crate) fn tell_path<W: Sink>(
     tell_schedule(alloc, &schedule, w)
 }
 
-/// The exit status where nothing was found, and moves were left out: 1 where the text promises that none is refused.
-fn left_out_status(promises: Promises, left: LeftOut) -> u8
-    ensures { result ≡ none_status promises (Some left) }
-{
-    if promises.bounds { 1 } else { 0 }
-}
-
 /// Writes that nothing was found in this many states, which are all, and which moves were left out, if any.
 fn tell_all_but<W: Sink>(
     states: u64,
     left_out: Option<LeftOut>,
-    promises: Promises,
     w: &mut W,
 ) -> Result<Ending, CommandFault>
-    ensures prints { Prints (none_status promises left_out) (all_line_but states left_out) (W.tape w.old) (W.tape w.new) result }
+    ensures prints { Prints 0 (all_line_but states left_out) (W.tape w.old) (W.tape w.new) result }
     ensures ended { IfOk result (IsEnded false (W.tape w.old).failures (W.tape w.new).failures) }
 {
     let Some(left) = left_out else {
         return tell_all(states, w);
     };
     let line = left_out_line(states, left);
-    tell_text(line.as_bytes(), left_out_status(promises, left), w)
+    tell_text(line.as_bytes(), 0, w)
 }
 
-/// Writes the schedule of fewest moves of the algorithm that goes wrong, or that there is none.
-fn tell_shortest<T: Threads + Sync, S: Screen, W: Sink>(
+/// Writes the schedule of fewest moves of an algorithm that goes wrong, or that there is none, and which moves were left out.
+fn tell_judged<T: Threads + Sync, S: Screen, W: Sink>(
     rt: &T,
     alloc: Global,
     algorithm: InitializedAlgorithm,
@@ -166,7 +159,7 @@ fn tell_shortest<T: Threads + Sync, S: Screen, W: Sink>(
     screen: &mut S,
     w: &mut W,
 ) -> Result<Ending, CommandFault>
-    ensures ends { ExploresAlgorithm algorithm args.now (W.tape w.old) (W.tape w.new) result }
+    ensures ends { ExploresJudged algorithm args.now (W.tape w.old) (W.tape w.new) result }
     ensures ended { IfOk result (IsEnded false (W.tape w.old).failures (W.tape w.new).failures) }
 {
     let bounds = AlgorithmBounds {
@@ -174,7 +167,6 @@ fn tell_shortest<T: Threads + Sync, S: Screen, W: Sink>(
         states: args.states,
     };
     let calls = calls_of(alloc, &algorithm, args)?;
-    let promises = algorithm.algorithm.promises;
     let mut meter = Meter::new(screen, Work::Search);
     let found = shortest_algorithm_schedule_in_parallel(
         rt,
@@ -196,11 +188,30 @@ fn tell_shortest<T: Threads + Sync, S: Screen, W: Sink>(
         Ok(found) => match found.outcome {
             SearchOutcome::Path(path) => tell_path(alloc, args, &path, w),
             SearchOutcome::NoneWithin => tell_within(args.moves, w),
-            SearchOutcome::Nowhere(states) => tell_all_but(states, found.left_out, promises, w),
+            SearchOutcome::Nowhere(states) => tell_all_but(states, found.left_out, w),
         },
         Err(AlgorithmExploreFault::Refused(_)) => Err(CommandFault::BadSize),
         Err(AlgorithmExploreFault::TooManyStates) => Err(CommandFault::TooManyStates),
         Err(AlgorithmExploreFault::OutOfMemory) => Err(CommandFault::OutOfMemory),
+    }
+}
+
+/// Writes the schedule of fewest moves of the algorithm that goes wrong, or that there is none.
+fn tell_shortest<T: Threads + Sync, S: Screen, W: Sink>(
+    rt: &T,
+    alloc: Global,
+    algorithm: InitializedAlgorithm,
+    args: &AlgorithmExploreArgs,
+    screen: &mut S,
+    w: &mut W,
+) -> Result<Ending, CommandFault>
+    ensures ends { ExploresAlgorithm algorithm args.now (W.tape w.old) (W.tape w.new) result }
+    ensures ended { IfOk result (IsEnded false (W.tape w.old).failures (W.tape w.new).failures) }
+{
+    if algorithm.algorithm.promises.bounds {
+        tell_in_range(rt, alloc, algorithm, args, screen, w)
+    } else {
+        tell_judged(rt, alloc, algorithm, args, screen, w)
     }
 }
 

@@ -9,6 +9,7 @@ pub mod algorithm_explore_command;
 pub mod algorithm_export_command;
 pub mod algorithm_hunt_command;
 pub mod algorithm_mean_command;
+mod algorithm_range;
 pub mod algorithm_replay_command;
 pub mod algorithm_session;
 pub mod algorithm_shrunk;

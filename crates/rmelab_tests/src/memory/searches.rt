@@ -18,6 +18,7 @@ step 0 8
 @row rmelab explore --variant right --procs 1 --limit 1 --moves 3 @out
 nothing found within 3 moves
 @row rmelab explore --algorithm a.lock --procs 2 @file a.lock ONE_WORD @out TWO_AT_ONCE @ends 1
+@row rmelab explore --algorithm a.lock --procs 1 --limit 1 @file a.lock COUNTED @out OUT_OF_RANGE_ALONE @ends 1
 @row rmelab explore --algorithm a.lock --procs 1 --stuck --limit 1 --crashes 1 @file a.lock ONE_WORD @out LEFT_HELD @ends 1
 @row rmelab cost --algorithm a.lock --model write-through --procs 1 --limit 1 @file a.lock ONE_WORD @out ALONE_COSTS
 @row rmelab cost --algorithm a.lock --model dsm --procs 1 --limit 1 --crashes 1 @file a.lock ONE_WORD @out SPINS @ends 1

@@ -2,7 +2,7 @@
 
 /// `TWO_AT_ONCE`: both read that nobody holds it before either has stored. `CRASH_INSIDE`: process 0 dies inside, comes back and
 /// gives way, and process 1 enters; `CRASH_OF_ALL`: so it does where all die. `STARVES`: process 1 sees the flag of process 0 each time. `OUT_OF_NUMBERS`: process 1 waits for no
-/// number, process 0 for its doorway. `LEFT_HELD`: process 0 waits for itself. `NO_MAILBOX`: the options of a
+/// number, process 0 for its doorway. `OUT_OF_RANGE`: the second entry is counted as 2. `LEFT_HELD`: process 0 waits for itself. `NO_MAILBOX`: the options of a
 /// variant's search alone.
 pub const TEXTS: &str = "
 @text CRASH_INSIDE
@@ -82,6 +82,71 @@ step 0
 step 0
 lock 1
 step 1
+@text COUNTED
+algorithm counted for 1 to 2 processes
+promises exclusion, bounds
+shared held up to 1
+shared entries up to 1
+call lock
+  await h := swap held to 1 until h = 0
+  this is enter
+  e := entries
+  entries := e + 1
+  done
+call unlock
+  held := 0 this is leave
+  done
+@text COUNTED_MODULO_TWO
+algorithm counted for 2 processes
+promises exclusion, bounds
+shared held up to 1
+shared entries up to 1
+call lock
+  await h := swap held to 1 until h = 0
+  this is enter
+  e := entries
+  entries := (e + 1) mod 2
+  done
+call unlock
+  held := 0 this is leave
+  done
+@text COUNTED_UNHELD
+algorithm counted for 2 processes
+promises exclusion, bounds
+shared held up to 1
+call lock
+  h := held
+  this is enter
+  done
+call unlock
+  held := 0 this is leave
+  done
+@text OUT_OF_RANGE
+rme 1 procs 2 limit 1 cap 1
+lock 0
+step 0
+step 0
+step 0
+unlock 0
+step 0
+lock 0
+step 0
+step 0
+step 0
+@text LINE_11
+rmelab: line 11: refused 16
+@text OUT_OF_RANGE_ALONE
+rme 1 procs 1 limit 1 cap 1
+lock 0
+step 0
+step 0
+step 0
+unlock 0
+step 0
+lock 0
+step 0
+step 0
+step 0
 @text LEFT_HELD
 rme 1 procs 1 limit 1 cap 1
 lock 0
@@ -139,6 +204,31 @@ nothing found: all 449 states, 26 moves left out from line 16
 nothing found: all 358 states, 79 moves left out from line 16
 @row rmelab explore --algorithm a.lock --procs 2 --calls recover @file a.lock PETERSON @out
 nothing found: all 1 states
+@row rmelab explore --algorithm a.lock --procs 2 --limit 1 --jobs 1 @file a.lock COUNTED @out OUT_OF_RANGE @ends 1
+@row rmelab explore --algorithm a.lock --procs 2 --limit 1 --jobs 3 @file a.lock COUNTED @out OUT_OF_RANGE @ends 1
+@row rmelab explore --algorithm a.lock --procs 2 --limit 1 --moves 9 @file a.lock COUNTED @out
+nothing found within 9 moves
+@row rmelab explore --algorithm a.lock --procs 2 --states 5 @file a.lock COUNTED @ends 3 @err
+rmelab: too many states
+@row rmelab explore --algorithm a.lock --procs 3 @file a.lock COUNTED @ends 2 @err BAD_SIZE
+@row rmelab explore --algorithm a.lock --procs 2 @file a.lock COUNTED_MODULO_TWO @out
+nothing found: all 40 states
+@row rmelab explore --algorithm a.lock --procs 2 --limit 1 @file a.lock COUNTED_UNHELD @ends 1 @out
+rme 1 procs 2 limit 1 cap 1
+lock 0
+step 0
+lock 1
+step 1
+@row rmelab replay --algorithm a.lock @in OUT_OF_RANGE @file a.lock COUNTED @ends 2 @err LINE_11 @out
+begin 0
+ready 0
+enter 0
+answer 0 done
+leave 0
+answer 0 done
+begin 0
+ready 0
+enter 0
 @row rmelab explore --algorithm a.lock --procs 2 --limit 1 --starving @file a.lock BURNS @out STARVES @ends 1
 @row rmelab explore --algorithm a.lock --procs 2 --limit 1 --starving any --jobs 2 @file a.lock BURNS @out STARVES @ends 1
 @row rmelab explore --algorithm a.lock --procs 2 --limit 1 --starving nobody --states 58 @file a.lock PETERSON @out

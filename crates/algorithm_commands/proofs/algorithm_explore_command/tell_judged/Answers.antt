@@ -4,7 +4,7 @@ use Rattle.algorithm_explorer.specs.Spaces.{algorithm_search}
 use Rattle.cli.specs.declared.arguments.args.AlgorithmExploreArgs.{AlgorithmExploreArgs}
 use Rattle.algorithm_commands.proofs.AlgorithmExplores.{AnswersArgs, ends_path, ends_within, ends_all}
 use Rattle.algorithm_commands.specs.AlgorithmFindings.{crash_bounds}
-use Rattle.algorithm_commands.proofs.algorithm_explore_command.tell_shortest.Goals as goal
+use Rattle.algorithm_commands.proofs.algorithm_explore_command.tell_judged.Goals as goal
 
 pub returns-in-Path-clause-ends : goal.returns-in-Path-clause-ends
 returns-in-Path-clause-ends g c =

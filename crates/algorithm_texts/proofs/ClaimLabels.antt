@@ -1,14 +1,15 @@
 -- The places of the labels that claims name, one after the other.
-use Rattle.std.proofs.Common.{◌≡◌, ℕ, zero, suc, ◌<◌, ◌+◌, Bool, true, false, cond, List, [], ◌∷◌, ◌++◌, length, drop, slice_get, Option, Some, None, is_some, not, refl, sym, ap, ◌∙◌, subst, append_assoc, append-nil, arith}
+use Rattle.std.proofs.Common.{◌≡◌, ℕ, zero, suc, ◌<◌, ◌+◌, Bool, true, false, cond, List, [], ◌∷◌, ◌++◌, length, drop, get_or, slice_get, Option, Some, None, is_some, not, refl, sym, ap, ◌∙◌, subst, append_assoc, append-nil, add-one, arith}
 use Rattle.std.specs.List.{find, drop-map}
 use Rattle.std.specs.Prelude.{map, position}
 use Rattle.algorithms.specs.declared.line.AlgorithmLine.{AlgorithmLine}
 use Rattle.std.proofs.lemmas.List.{length-map}
-use Rattle.std.proofs.lemmas.Option.{same_Some}
+use Rattle.std.proofs.lemmas.Option.{same_Some, slice_get_read}
 use Rattle.algorithm_texts.specs.declared.lines.ClaimLabel.{ClaimLabel}
 use Rattle.algorithm_texts.specs.Parts.{◌>>=◌}
 use Rattle.algorithm_texts.specs.Drafts.{Drafted, line_of}
 use Rattle.algorithm_texts.specs.NeverClaims.{access_below, place_from, claimed_place, claimed_places, claimed_places_of, has_no_place, is_access_line}
+use Rattle.algorithm_texts.specs.TextFaults.{ClaimsHavePlaces}
 
 -- these places, and those of the labels that are left
 abbrev pub places_after : List ℕ → Option (List ℕ) → Option (List ℕ)
@@ -48,6 +49,15 @@ places_more d at places claimed place so_far there found =
     by None = refl
     by (Some ps) = ap Some (sym (append_assoc places (place ∷ []) ps))
 
+-- the label at this place of the draft
+pub claimed_at : (d : Drafted) (all : List ClaimLabel) (at : ℕ) (claimed : ClaimLabel) → all ≡ d.claim_labels → at < length all → claimed ≡ get_or all at claimed → slice_get d.claim_labels at ≡ Some claimed
+claimed_at d all at claimed same below is = ap (λ ls. slice_get ls at) (sym same) ∙ slice_get_read all _ _ _ refl below is
+
+-- so it is with the place that was added
+pub places_added : (d : Drafted) (at : ℕ) (places now : List ℕ) (claimed : ClaimLabel) (place : ℕ) → PlacesSoFar d at places → slice_get d.claim_labels at ≡ Some claimed → claimed_place d claimed ≡ Some place
+    → now ≡ places ++ place ∷ [] → PlacesSoFar d (at + 1) now
+places_added d at places now claimed place so_far there found added = rw (add-one, added) (places_more d at places claimed place so_far there found)
+
 -- at the end all are found
 pub places_all : (d : Drafted) (at : ℕ) (places : List ℕ) → PlacesSoFar d at places → drop at d.claim_labels ≡ [] → claimed_places d ≡ Some places
 places_all d at places so_far over = so_far.all ∙ ap (λ ls. places_after places (claimed_places_of d ls)) over ∙ ap Some (append-nil places)
@@ -62,6 +72,10 @@ place_missing d at places claimed so_far there none =
       so_far.all ∙ ap (λ ls. places_after places (claimed_places_of d ls)) next
           ∙ ap (λ (o : Option ℕ). places_after places (o >>= (λ p. claimed_places_of d rest >>= (λ ps. Some (p ∷ ps))))) none,
     )
+
+-- where not all are found, there are no such places
+pub no_places : (d : Drafted) → claimed_places d ≡ None → ClaimsHavePlaces d → ⊥
+no_places d none w = cc (none, w.1)
 
 -- the lines from a place on are those of the draft
 pub access_from : (lines : List AlgorithmLine) (place : ℕ) → position is_access_line (map line_of (drop place lines)) ≡ position is_access_line (drop place (map line_of lines))

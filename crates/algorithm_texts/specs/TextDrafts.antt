@@ -310,15 +310,21 @@ read_numbers tokens = do
   least ← number_in (slice_get tokens 0)
   if is_the_word (slice_get tokens 1) (codes "to") then numbers_from least tokens else Some (least, least, drop 1 tokens)
 
+-- `for LEAST to MOST processes`
+abbrev pub read_head_numbers : List Token → Option (ℕ × ℕ)
+read_head_numbers tokens = do
+  following ← past_word tokens (codes "for")
+  n ← read_numbers following
+  end ← past_word n.2 (codes "processes")
+  value_if (is_over end) (Some (n.0, n.1))
+
 -- `algorithm NAME for LEAST to MOST processes`
 abbrev pub read_head_words : List Token → Option (List ℕ × ℕ × ℕ)
 read_head_words tokens = do
   rest ← past_word tokens (codes "algorithm")
   name ← new_name (slice_get rest 0)
-  following ← past_word (drop 1 rest) (codes "for")
-  n ← read_numbers following
-  end ← past_word n.2 (codes "processes")
-  value_if (is_over end) (Some (name, n.0, n.1))
+  n ← read_head_numbers (drop 1 rest)
+  Some (name, n.0, n.1)
 
 abbrev pub read_head : List Token → Option (List ℕ × ℕ × ℕ)
 read_head tokens = do

@@ -12,6 +12,7 @@ ghost use Rattle.algorithm_texts.specs.LineFaults.{brackets_fault, two_indexes_f
 use crate::extents::table_place;
 use crate::lines::Draft;
 use crate::names::{declaration_of, is_declared, is_name};
+use crate::operands::form_fault;
 use crate::parts::{
     after, after_sign, after_withdraw, after_word, deed_said, letters, split_value,
 };
@@ -89,8 +90,10 @@ impl Draft {
     {
         let (part, rest) = split_value(after_sign(tokens, Sign::OpenIndex)?);
         let index = self.value(alloc, part)?;
-        let rest = after_sign(rest, Sign::CloseIndex)?;
-        Ok((index, rest))
+        match after_sign(rest, Sign::CloseIndex) {
+            Ok(rest) => Ok((index, rest)),
+            Err(_) => Err(form_fault(index)),
+        }
     }
 
     /// The place of a word in an array, and the tokens after its index.

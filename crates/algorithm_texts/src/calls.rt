@@ -10,7 +10,7 @@ ghost use Rattle.algorithm_texts.specs.Drafts.{draft_view};
 ghost use Rattle.algorithm_texts.specs.LineDrafts.{Drafts, scope_in, with_names};
 ghost use Rattle.algorithm_texts.specs.LineFaults.{head_fault, constant_value_fault, constant_fault, single_fault, private_fault, declaration_fault, call_fault, line_fault};
 ghost use Rattle.algorithm_texts.specs.Tokens.{value_of_name};
-ghost use Rattle.algorithm_texts.specs.TextDrafts.{IsEmpty, call_words, has_call, ended_calls, end_call, with_call, read_call, read_constant_value, with_constant, read_constant, read_single, read_private, read_declaration, read_line, read_numbers, read_head_words, read_head};
+ghost use Rattle.algorithm_texts.specs.TextDrafts.{IsEmpty, call_words, has_call, ended_calls, end_call, with_call, read_call, read_constant_value, with_constant, read_constant, read_single, read_private, read_declaration, read_line, read_numbers, read_head_numbers, read_head_words, read_head};
 
 use crate::constants::{constant_form_fault, is_constant_value};
 use crate::lines::{CallRead, Draft};
@@ -79,6 +79,18 @@ fn numbers(tokens: &[Token]) -> Option<(u64, u64, &[Token])>
     }
 }
 
+/// The least and the greatest number of processes after the name, up to the end of the line.
+fn head_numbers(tokens: &[Token]) -> Result<(u64, u64), ReadFault>
+    ensures { MatchResult result (λ n. read_head_numbers tokens.now ≡ Some (n.0, n.1))
+        (λ _. read_head_numbers tokens.now ≡ None) }
+{
+    let Some((least, most, rest)) = numbers(after_word(tokens, b"for")?) else {
+        return Err(ReadFault::NoHeader);
+    };
+    check_end(after_word(rest, b"processes")?)?;
+    Ok((least, most))
+}
+
 /// What a first line says: the name, and the least and the greatest number of processes.
 fn head_words(tokens: &[Token]) -> Result<(LineWord, u64, u64), ReadFault>
     ensures { MatchResult result (λ h. read_head_words tokens.now ≡ Some (h.0, h.1, h.2))
@@ -86,10 +98,7 @@ fn head_words(tokens: &[Token]) -> Result<(LineWord, u64, u64), ReadFault>
 {
     let rest = after_word(tokens, b"algorithm")?;
     let name = new_name(rest.first())?;
-    let Some((least, most, rest)) = numbers(after_word(after(rest, 1), b"for")?) else {
-        return Err(ReadFault::NoHeader);
-    };
-    check_end(after_word(rest, b"processes")?)?;
+    let (least, most) = head_numbers(after(rest, 1))?;
     Ok((name, least, most))
 }
 
@@ -186,7 +195,9 @@ impl Draft {
         if rest.is_empty() && (is_constant_value(&value) && self.algorithm.names.len() == known) {
             Ok(value)
         } else {
-            Err(constant_form_fault(&value))
+            let fault = constant_form_fault(&value);
+            drop(value);
+            Err(fault)
         }
     }
 

@@ -75,14 +75,10 @@ fn reachable_place(blocks: &[(usize, usize)], at: usize, label: Label) -> Option
 {
     match label.block {
         None => Some(label.place),
-        Some(block) => {
-            let block = blocks.get(block).copied()?;
-            if is_within(block, at) {
-                Some(label.place)
-            } else {
-                None
-            }
-        }
+        Some(block) => match blocks.get(block) {
+            Some(block) if is_within(*block, at) => Some(label.place),
+            _ => None,
+        },
     }
 }
 

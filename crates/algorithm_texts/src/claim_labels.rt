@@ -1,7 +1,8 @@
 //! The labels that claims name, once all calls are read.
 
-ghost use Rattle.std.specs.Prelude.{◌≡◌, ◌+◌, Some, drop, map, position, IfOk, IfErr};
+ghost use Rattle.std.specs.Prelude.{◌≡◌, ◌+◌, ◌++◌, ◌∷◌, [], Some, drop, map, position, IfOk, IfErr, OnOk};
 ghost use Rattle.std.specs.List.{list_any};
+ghost use Rattle.algorithms.specs.declared.fault.AlgorithmFault.TheVariants.{OutOfMemory as NoMemory};
 ghost use Rattle.algorithm_texts.specs.Drafts.{draft_view, line_of};
 ghost use Rattle.algorithm_texts.specs.NeverClaims.{access_below, claimed_place, claimed_places, has_name, is_access_line, only_label};
 ghost use Rattle.algorithm_texts.specs.TextFaults.{ClaimsHavePlaces, IsFaultOfClaims, OrMemory};
@@ -97,8 +98,16 @@ fn claimed_place(draft: &Draft, claimed: ClaimLabel) -> Option<usize>
     Some(access_below(draft.algorithm.lines.as_slice(), label.place))
 }
 
+/// Adds a place after the others.
+fn add_place(places: &mut Vec<usize>, place: usize) -> Result<(), AlgorithmFault>
+    ensures ok { OnOk result (places.new.items ≡ places.old.items ++ place ∷ []) }
+    ensures err { IfErr result (λ fault. fault ≡ NoMemory) }
+{
+    places.push(place).map_err(|_| AlgorithmFault::OutOfMemory)
+}
+
 /// The places of all labels that claims name. `BadLabel` at the first claim that names one which is in no call, or in two.
-#[tactic(auto, using(crate::proofs::ClaimLabels::places_begun, crate::proofs::ClaimLabels::places_more, crate::proofs::ClaimLabels::places_all, crate::proofs::ClaimLabels::place_missing))]
+#[tactic(auto, using(crate::proofs::ClaimLabels::places_begun))]
 pub fn claimed_places(alloc: Global, draft: &Draft) -> Result<Vec<usize>, AlgorithmFault>
     ensures ok { IfOk result (λ places. claimed_places (draft_view draft.now) ≡ Some places.items) }
     ensures err { IfErr result (λ fault. IsRefusalOf fault (ClaimsHavePlaces (draft_view draft.now))) }
@@ -107,7 +116,7 @@ pub fn claimed_places(alloc: Global, draft: &Draft) -> Result<Vec<usize>, Algori
     let mut places = Vec::new(alloc);
     for claimed in &draft.claim_labels {
         match claimed_place(draft, *claimed) {
-            Some(place) => places.push(place).map_err(|_| AlgorithmFault::OutOfMemory)?,
+            Some(place) => add_place(&mut places, place)?,
             None => return Err(ReadFault::BadLabel.at(claimed.number)),
         }
     }

@@ -9,6 +9,7 @@ ghost use Rattle.algorithm_texts.specs.Operands.{named_constants};
 ghost use Rattle.algorithm_texts.specs.LineFaults.{constant_form_fault};
 ghost use Rattle.algorithm_texts.specs.TextDrafts.{atoms, is_bound, is_constant_value};
 
+use crate::extents::join_values;
 use algorithms::algorithm::Algorithm;
 use algorithms::expression::Expression;
 use algorithms::fault::ReadFault;
@@ -43,16 +44,16 @@ pub fn copy_value(alloc: Global, value: &Expression) -> Result<Expression, ReadF
         Expression::Number(number) => Ok(Expression::Number(*number)),
         Expression::Private(name) => Ok(Expression::Private(*name)),
         Expression::Element(row, index) => {
-            let index = Box::new(alloc, copy_value(alloc, index)?)?;
-            Ok(Expression::Element(*row, index))
+            let index = copy_value(alloc, index)?;
+            Ok(Expression::Element(*row, Box::new(alloc, index)?))
         }
         Expression::Me => Ok(Expression::Me),
         Expression::Procs => Ok(Expression::Procs),
         Expression::Limit => Ok(Expression::Limit),
         Expression::Joined(operator, left, right) => {
-            let left = Box::new(alloc, copy_value(alloc, left)?)?;
-            let right = Box::new(alloc, copy_value(alloc, right)?)?;
-            Ok(Expression::Joined(*operator, left, right))
+            let left = copy_value(alloc, left)?;
+            let right = copy_value(alloc, right)?;
+            join_values(alloc, *operator, left, right)
         }
     }
 }

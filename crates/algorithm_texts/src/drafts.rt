@@ -144,8 +144,13 @@ fn draft(alloc: Global, lines: &[Filled]) -> Result<Draft, AlgorithmFault>
         None => return Err(ReadFault::NoHeader.at(1)),
     };
     let algorithm = head_of(alloc, first)?;
-    let (promises, number) = second_line(lines, first.number)?;
-    Ok(new_draft(alloc, algorithm, promises, number))
+    match second_line(lines, first.number) {
+        Ok((promises, number)) => Ok(new_draft(alloc, algorithm, promises, number)),
+        Err(fault) => {
+            drop(algorithm);
+            Err(fault)
+        }
+    }
 }
 
 /// What the first line says.

@@ -12,6 +12,7 @@ ghost use Rattle.algorithm_texts.specs.TextDrafts.{is_procs, extent_by, read_siz
 
 use crate::constants::{copy_value, is_bound};
 use crate::lines::Draft;
+use crate::operands::form_fault;
 use crate::tokens::{Sign, Token, is_sign};
 use algorithms::algorithm::Extent;
 use algorithms::expression::{Expression, Operator};
@@ -19,7 +20,7 @@ use algorithms::fault::ReadFault;
 use std::alloc::Global;
 
 /// Two values with an operator between them.
-fn join_values(
+pub fn join_values(
     alloc: Global,
     operator: Operator,
     left: Expression,
@@ -178,7 +179,7 @@ impl Draft {
         if is_bound(&size) && self.algorithm.names.len() == known {
             Ok((size, rest))
         } else {
-            Err(ReadFault::BadForm)
+            Err(form_fault(size))
         }
     }
 

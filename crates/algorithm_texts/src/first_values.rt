@@ -1,6 +1,6 @@
 //! The first values of shared words, as texts say them, and values in which `owner` is the index of a word.
 
-ghost use Rattle.std.specs.Prelude.{◌≡◌, map, take, drop, position, Some, Ok, IfOk, IfErr, MatchResult};
+ghost use Rattle.std.specs.Prelude.{◌≡◌, ◌++◌, ◌∷◌, [], map, take, drop, position, Some, Ok, IfOk, OnOk, IfErr, MatchResult};
 ghost use Rattle.std.specs.List.{list_any};
 ghost use Rattle.algorithms.specs.declared.fault.ReadFault.TheVariants.{OutOfMemory as NoMemory};
 ghost use Rattle.algorithm_texts.specs.Fronts.{is_me};
@@ -12,6 +12,7 @@ ghost use Rattle.algorithm_texts.specs.LineFaults.{value_fault, owner_value_faul
 ghost use Rattle.algorithm_texts.specs.TextDrafts.{is_starts, bound_size, owner_token, owner_tokens, is_owner_value, read_owner_value, read_start};
 
 use crate::lines::Draft;
+use crate::operands::form_fault;
 use crate::parts::{after_word, split_value};
 use crate::tokens::{LineWord, Token, is_word};
 use algorithms::expression::Expression;
@@ -54,6 +55,15 @@ fn owner_token(token: &Token) -> Result<Token, ReadFault>
     }
 }
 
+/// Adds a token, with `me` for `owner`.
+fn push_owner_token(all: &mut Vec<Token>, token: &Token) -> Result<(), ReadFault>
+    ensures ok { OnOk result (all.new.items ≡ all.old.items ++ owner_token token.now ∷ []) }
+    ensures err { IfErr result (λ fault. fault ≡ NoMemory) }
+{
+    all.push(owner_token(token)?)?;
+    Ok(())
+}
+
 /// The tokens, with `me` for `owner`.
 fn owner_tokens(alloc: Global, tokens: &[Token]) -> Result<Vec<Token>, ReadFault>
     ensures ok { IfOk result (λ all. all.items ≡ map owner_token tokens.now) }
@@ -61,8 +71,7 @@ fn owner_tokens(alloc: Global, tokens: &[Token]) -> Result<Vec<Token>, ReadFault
 {
     let mut all = Vec::with_capacity(alloc, tokens.len())?;
     for token in tokens {
-        let owned = owner_token(token)?;
-        all.push(owned)?;
+        push_owner_token(&mut all, token)?;
     }
     Ok(all)
 }
@@ -147,7 +156,7 @@ impl Draft {
         {
             Ok(value)
         } else {
-            Err(ReadFault::BadForm)
+            Err(form_fault(value))
         }
     }
 

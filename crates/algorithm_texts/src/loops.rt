@@ -12,6 +12,7 @@ ghost use Rattle.algorithm_texts.specs.LineFaults.{second_end_fault, range_fault
 
 use crate::constants::copy_value;
 use crate::lines::Draft;
+use crate::operands::form_fault;
 use crate::parts::{after, after_word, members_said, split_value};
 use crate::tokens::{Token, is_word};
 use algorithms::expression::{Expression, Operator};
@@ -220,7 +221,7 @@ impl Draft {
         if rest.is_empty() && (is_fixed(&first) && is_fixed(&last)) {
             Ok(range_of(down, first, last))
         } else {
-            Err(ReadFault::BadForm)
+            Err(form_fault((first, last)))
         }
     }
 

@@ -79,7 +79,7 @@ impl Operand {
     {
         match self {
             Operand::Condition(condition) => Ok(condition),
-            Operand::Pair(_) | Operand::Value(_) => Err(ReadFault::BadForm),
+            other => Err(form_fault(other)),
         }
     }
 }

@@ -16,6 +16,7 @@ use crate::constants::copy_value;
 use crate::extents::index_within;
 use crate::lines::Draft;
 use crate::names::is_reserved;
+use crate::operands::form_fault;
 use crate::parts::{after_sign, check_end, ended_without_deed, split_value};
 use crate::tokens::{Sign, Token, is_sign};
 use algorithms::algorithm::{Algorithm, NamedRow};
@@ -156,10 +157,13 @@ impl Draft {
     {
         let (size, rest) = self.size(alloc, tokens)?;
         if self.algorithm.names.len() > NAMES - MOST_ELEMENTS {
+            drop(size);
             return Err(ReadFault::TooBig);
         }
-        check_end(rest)?;
-        self.declare_row(alloc, name, size)
+        match check_end(rest) {
+            Ok(()) => self.declare_row(alloc, name, size),
+            Err(_) => Err(form_fault(size)),
+        }
     }
 
     /// The value of values of a row, up to the end of the line.

@@ -16,6 +16,7 @@ use crate::first_values::split_bound;
 use crate::homes::split_home;
 use crate::lines::Draft;
 use crate::names::undeclared_name;
+use crate::operands::form_fault;
 use crate::parts::{after, after_word, split_value};
 use crate::tokens::Token;
 use algorithms::algorithm::{Declaration, Extent};
@@ -53,7 +54,7 @@ impl Draft {
         if rest.is_empty() && (is_bound(&value) && self.algorithm.names.len() == known) {
             Ok(value)
         } else {
-            Err(ReadFault::BadForm)
+            Err(form_fault(value))
         }
     }
 
@@ -90,8 +91,13 @@ impl Draft {
     {
         let (limited, rest) = split_bound(tokens);
         let bound = self.bound(alloc, limited)?;
-        let start = self.start(alloc, each, rest)?;
-        Ok((bound, start))
+        match self.start(alloc, each, rest) {
+            Ok(start) => Ok((bound, start)),
+            Err(fault) => {
+                drop(bound);
+                Err(fault)
+            }
+        }
     }
 
     /// The bound, the first value and the home of a word, where they are there, up to the end of the line.
@@ -111,8 +117,13 @@ impl Draft {
     {
         let (values, rest) = split_home(tokens);
         let (bound, start) = self.bound_and_start(alloc, each, values)?;
-        let home = self.home(alloc, each, rest)?;
-        Ok((bound, start, home))
+        match self.home(alloc, each, rest) {
+            Ok(home) => Ok((bound, start, home)),
+            Err(fault) => {
+                drop((bound, start));
+                Err(fault)
+            }
+        }
     }
 
     /// Adds the first value of the words of one more declaration, or that none is said.

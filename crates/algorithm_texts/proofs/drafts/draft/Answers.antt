@@ -5,11 +5,11 @@ use Rattle.algorithm_texts.proofs.FormFaults.{draft_begins, first_missing, first
 use Rattle.algorithm_texts.proofs.TextBeginnings.{text_begun, no_first, head_refuses, no_promises}
 use Rattle.algorithm_texts.proofs.drafts.draft.Goals as goal
 
-pub returns-clause-ok : goal.returns-clause-ok
-returns-clause-ok c =
+pub returns-in-Ok-clause-ok : goal.returns-in-Ok-clause-ok
+returns-in-Ok-clause-ok c =
     let first : slice_get c.args.lines.now 0 ≡ Some c.in-Some.first.now = first_of (search rules, cc) in
     let h = c.in_ok-algorithm.ensures.ok in
-    text_begun c.args.lines.now c.in-Some.first.now h.0 c.in_ok-promises.promises c.in_ok-promises.number (draft_view c.new_draft.result) first h.1 c.in_ok-promises.ensures.ok (c.new_draft.ensures h.0 h.2)
+    text_begun c.args.lines.now c.in-Some.first.now h.0 c.in-Ok.promises c.in-Ok.number (draft_view c.new_draft.result) first h.1 c.in-Ok.ensures.ok (c.new_draft.ensures h.0 h.2)
 
 pub returns-in-None-clause-err : goal.returns-in-None-clause-err
 returns-in-None-clause-err c =
@@ -22,17 +22,16 @@ returns-in_err-algorithm-clause-err c =
     let first : slice_get c.args.lines.now 0 ≡ Some c.in-Some.first.now = first_of (search rules, cc) in
     rw (p.1, p.2) (head_refuses c.args.lines.now c.in-Some.first.now c.in_err-algorithm.field-0.0 first c.in_err-algorithm.ensures.err)
 
-pub returns-in_err-promises-clause-err : goal.returns-in_err-promises-clause-err
-returns-in_err-promises-clause-err c =
-    let p = err_from_is_err_and c.from_residual-in_err-promises.result c.from_residual-in_err-promises.ensures.1 in
+pub returns-in-Err-clause-err : goal.returns-in-Err-clause-err
+returns-in-Err-clause-err c =
     let first : slice_get c.args.lines.now 0 ≡ Some c.in-Some.first.now = first_of (search rules, cc) in
-    rw (p.1, p.2) (inr (no_promises c.args.lines.now c.in-Some.first.now first c.in_err-promises.ensures.err))
+    inr (no_promises c.args.lines.now c.in-Some.first.now first c.in-Err.ensures.err)
 
-pub returns-clause-begins : goal.returns-clause-begins
-returns-clause-begins c =
+pub returns-in-Ok-clause-begins : goal.returns-in-Ok-clause-begins
+returns-in-Ok-clause-begins c =
     let first : slice_get c.args.lines.now 0 ≡ Some c.in-Some.first.now = first_of (search rules, cc) in
     let h = c.in_ok-algorithm.ensures.ok in
-    draft_begins c.args.lines.now c.in-Some.first.now h.0 c.in_ok-promises.promises c.in_ok-promises.number (draft_view c.new_draft.result) first h.1 c.in_ok-promises.ensures.ok (c.new_draft.ensures h.0 h.2)
+    draft_begins c.args.lines.now c.in-Some.first.now h.0 c.in-Ok.promises c.in-Ok.number (draft_view c.new_draft.result) first h.1 c.in-Ok.ensures.ok (c.new_draft.ensures h.0 h.2)
 
 pub returns-in-None-clause-first : goal.returns-in-None-clause-first
 returns-in-None-clause-first c =
@@ -45,9 +44,8 @@ returns-in_err-algorithm-clause-first c =
     let first : slice_get c.args.lines.now 0 ≡ Some c.in-Some.first.now = first_of (search rules, cc) in
     rw (p.1, p.2) (first_stops c.args.lines.now c.in-Some.first.now c.in_err-algorithm.field-0.0 first c.in_err-algorithm.ensures.at)
 
-pub returns-in_err-promises-clause-first : goal.returns-in_err-promises-clause-first
-returns-in_err-promises-clause-first c =
-    let p = err_from_is_err_and c.from_residual-in_err-promises.result c.from_residual-in_err-promises.ensures.1 in
+pub returns-in-Err-clause-first : goal.returns-in-Err-clause-first
+returns-in-Err-clause-first c =
     let first : slice_get c.args.lines.now 0 ≡ Some c.in-Some.first.now = first_of (search rules, cc) in
     let h = c.in_ok-algorithm.ensures.ok in
-    rw (p.1, p.2) (head_then c.args.lines.now c.in-Some.first.now h.0 c.in_err-promises.field-0.0 first h.1 c.in_err-promises.ensures.first)
+    head_then c.args.lines.now c.in-Some.first.now h.0 c.in-Err.fault first h.1 c.in-Err.ensures.first

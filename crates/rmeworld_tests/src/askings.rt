@@ -29,7 +29,8 @@ pub fn holds(row: &str) -> bool {
     }
 }
 
-pub const PLANS: &str = "\
+/// The askings at which plans fall.
+pub const TABLES: &str = "\
 plans: a plan falls at its askings
 never: none
 at 0: none
@@ -40,11 +41,10 @@ both 2 3: falls 2 5
 both 0 3: falls 3
 both 2 0: falls 2
 both 0 0: none
-both 2 18446744073709551615: falls 2";
+both 2 18446744073709551615: falls 2
 
-/// From seed 1 an independent generator draws 574, 214, 417, 984, 235, 480, 784, 712, 836, 536, 507, 636 modulo 1,000.
-pub const SEEDED: &str = "\
 plans: a seeded plan falls below its per mille
+# From seed 1 an independent generator draws 574, 214, 417, 984, 235, 480, 784, 712, 836, 536, 507, 636 modulo 1,000.
 seeded 1 214: none
 seeded 1 215: falls 2
 seeded 1 418: falls 2 3 5";

@@ -153,7 +153,8 @@ pub fn holds(alloc: Global, sizes: &Phrase<'_>, rest: &str) -> bool {
     }
 }
 
-pub const LOCK_ROWS: &str = "\
+/// The worked rows on a core.
+pub const TABLES: &str = "\
 cores: lock rows
 # smallest
 sizes 1 10: lock 0; step 0 7 in; words 0 0 1 1 | begin 0; ready 0; enter 0
@@ -166,9 +167,8 @@ sizes 2 10: lock 1; step 1 5; crash 1; lock 0; step 0 8; lock 1; step 1 6; step 
 # between-two-words: 0 restarts with choosing and a number both set, shuts and enters; 1 stays blocked
 sizes 2 10: lock 0; step 0 6; crash 0; lock 1; step 1 8; lock 0; step 0 7 in; step 1 4; words 0 0 1 1; words 1 0 2 0; began 0 1 1 0 | begin 0; ready 0; crash 0; begin 1; ready 1; enter 0
 # re-entry
-sizes 2 10: lock 0; step 0 10 in; lock 1; step 1 7; crash 0; step 1 3; lock 0; step 0 3 in-again; words 1 0 2 0 | begin 0; ready 0; enter 0; begin 1; ready 1; crash 0; reenter 0";
+sizes 2 10: lock 0; step 0 10 in; lock 1; step 1 7; crash 0; step 1 3; lock 0; step 0 3 in-again; words 1 0 2 0 | begin 0; ready 0; enter 0; begin 1; ready 1; crash 0; reenter 0
 
-pub const ENDS_OF_WAITING: &str = "\
 cores: ends of waiting
 # half-an-exit: the number is cleared, so the next process enters; the mark is left to the recovery
 sizes 2 10: lock 0; step 0 10 in; lock 1; step 1 8; unlock 0; step 0 1; crash 0; step 1 2 in; recover 0; step 0 4 found left; words 0 0 0 0; words 1 0 2 1 | begin 0; ready 0; enter 0; begin 1; ready 1; leave 0; crash 0; enter 1
@@ -177,16 +177,14 @@ sizes 2 1: lock 0; step 0 10 in; lock 1; step 1 6 spent; unlock 0; step 0 2 out;
 # withdraw-waiting
 sizes 2 10: lock 0; step 0 7; lock 1; step 1 9; withdraw 0; step 0 1 withdrawn; step 1 2 in; words 0 0 0 0; words 1 0 2 1 | begin 0; ready 0; begin 1; ready 1; quit 0; enter 1
 # withdraw-and-return
-sizes 2 10: lock 0; step 0 10 in; lock 1; step 1 9; withdraw 1; step 1 1 withdrawn; lock 1; step 1 9; unlock 0; step 0 2 out; step 1 2 in; words 1 0 2 1; blocked 1 1; steps 1 11 | begin 0; ready 0; enter 0; begin 1; ready 1; quit 1; begin 1; ready 1; leave 0; enter 1";
+sizes 2 10: lock 0; step 0 10 in; lock 1; step 1 9; withdraw 1; step 1 1 withdrawn; lock 1; step 1 9; unlock 0; step 0 2 out; step 1 2 in; words 1 0 2 1; blocked 1 1; steps 1 11 | begin 0; ready 0; enter 0; begin 1; ready 1; quit 1; begin 1; ready 1; leave 0; enter 1
 
-/// There is no weigh without a look: 1 waits for the process in its doorway, and then the tie decides.
-pub const LOOKS_FIRST: &str = "\
 cores: looks first
-sizes 2 10: lock 0; lock 1; step 0 5; step 1 6; step 1 4; step 0 5 in; blocked 1 3; look 1 0 0; weigh 1 0 1 | begin 0; begin 1; ready 1; ready 0; enter 0";
+# There is no weigh without a look: 1 waits for the process in its doorway, and then the tie decides.
+sizes 2 10: lock 0; lock 1; step 0 5; step 1 6; step 1 4; step 0 5 in; blocked 1 3; look 1 0 0; weigh 1 0 1 | begin 0; begin 1; ready 1; ready 0; enter 0
 
-/// All 64 processes crash. Their words are kept, and the locks go on from them.
-pub const CRASH_OF_EVERYTHING: &str = "\
 cores: crash of everything
+# All 64 processes crash. Their words are kept, and the locks go on from them.
 sizes 64 100: lock 0; step 0 196 in; lock 1; step 1 69; crash 0; crash 1; crash 2; crash 3; crash 4; crash 5; crash 6; \
 crash 7; crash 8; crash 9; crash 10; crash 11; crash 12; crash 13; crash 14; crash 15; crash 16; crash 17; crash 18; \
 crash 19; crash 20; crash 21; crash 22; crash 23; crash 24; crash 25; crash 26; crash 27; crash 28; crash 29; crash \
@@ -199,19 +197,18 @@ crash 11; crash 12; crash 13; crash 14; crash 15; crash 16; crash 17; crash 18; 
 22; crash 23; crash 24; crash 25; crash 26; crash 27; crash 28; crash 29; crash 30; crash 31; crash 32; crash 33; \
 crash 34; crash 35; crash 36; crash 37; crash 38; crash 39; crash 40; crash 41; crash 42; crash 43; crash 44; crash \
 45; crash 46; crash 47; crash 48; crash 49; crash 50; crash 51; crash 52; crash 53; crash 54; crash 55; crash 56; \
-crash 57; crash 58; crash 59; crash 60; crash 61; crash 62; crash 63; reenter 0";
+crash 57; crash 58; crash 59; crash 60; crash 61; crash 62; crash 63; reenter 0
 
-/// Refusals for a process that does not exist, and for a process at rest, in the doorway, waiting and inside. Any process
-/// may crash, also an idle or a crashed one. A crash ends the call under way.
-pub const REFUSED_CALLS: &str = "\
 cores: refused calls
+# Refusals for a process that does not exist, and for a process at rest, in the doorway, waiting and inside. Any process
+# may crash, also an idle or a crashed one. A crash ends the call under way.
 sizes 2 10: refused 3 lock 2; refused 3 recover 2; refused 3 unlock 2; refused 3 withdraw 2; refused 3 step 2; refused 3 crash 2; refused 3 words 2; refused 3 steps 2; refused 3 blocked 2; refused 3 began 2
 sizes 2 10: steps 0 0; blocked 0 0; began 0 0 0 0; refused 7 step 0; refused 5 unlock 0; refused 14 withdraw 0
-sizes 2 10: crash 1; crash 1; lock 0; step 0 10 in; unlock 0; crash 0; refused 7 step 0; refused 5 unlock 0; words 0 0 1 1 | crash 1; crash 1; begin 0; ready 0; enter 0; crash 0";
+sizes 2 10: crash 1; crash 1; lock 0; step 0 10 in; unlock 0; crash 0; refused 7 step 0; refused 5 unlock 0; words 0 0 1 1 | crash 1; crash 1; begin 0; ready 0; enter 0; crash 0
 
-/// At each step of a lock another call is refused, a withdraw until it is waiting; then the same of a process that is inside.
-pub const OUT_OF_PLACE: &str = "\
 cores: out of place
+# At each step of a lock another call is refused, a withdraw until it is waiting; then the same of a process that is
+# inside.
 sizes 2 10: lock 0; refused 4 lock 0; refused 4 recover 0; refused 4 unlock 0; refused 14 withdraw 0; step 0 1; \
 refused 4 lock 0; refused 4 recover 0; refused 4 unlock 0; refused 14 withdraw 0; step 0 1; refused 4 lock 0; refused \
 4 recover 0; refused 4 unlock 0; refused 14 withdraw 0; step 0 1; refused 4 lock 0; refused 4 recover 0; refused 4 \
@@ -220,9 +217,8 @@ withdraw 0; step 0 1; refused 4 lock 0; refused 4 recover 0; refused 4 unlock 0;
 refused 4 lock 0; refused 4 recover 0; refused 4 unlock 0; refused 14 withdraw 0; step 0 1; refused 4 lock 0; refused \
 4 recover 0; refused 4 unlock 0; step 0 1; refused 4 lock 0; refused 4 recover 0; refused 4 unlock 0; step 0 1; \
 refused 4 lock 0; refused 4 recover 0; refused 4 unlock 0; step 0 1 in; refused 6 lock 0; refused 6 recover 0; refused \
-14 withdraw 0; refused 7 step 0 | begin 0; ready 0; enter 0";
+14 withdraw 0; refused 7 step 0 | begin 0; ready 0; enter 0
 
-pub const REFUSED_SIZES: &str = "\
 cores: refused sizes
 sizes 0 0: refused 1
 sizes 65 10: refused 1

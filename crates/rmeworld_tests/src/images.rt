@@ -74,9 +74,9 @@ fn text_of(name: &str) -> &'static str {
 }
 
 /// Whether the image is written as this text.
-fn is_written(alloc: Global, image: &Image, text: &str) -> bool {
+pub fn is_written(alloc: Global, image: &Image, text: &[u8]) -> bool {
     match write_image(alloc, image) {
-        Ok(written) => written.as_slice() == text.as_bytes(),
+        Ok(written) => written.as_slice() == text,
         Err(_) => false,
     }
 }
@@ -84,7 +84,7 @@ fn is_written(alloc: Global, image: &Image, text: &str) -> bool {
 /// Whether the image, widened, is this text. Without one, widening it is refused.
 fn is_widened(alloc: Global, image: &Image, width: u64, text: &str) -> bool {
     match widen(alloc, image, width) {
-        Ok(wider) => is_written(alloc, &wider, text),
+        Ok(wider) => is_written(alloc, &wider, text.as_bytes()),
         Err(refusal) => text.is_empty() && refusal == Refusal::BadWidth,
     }
 }
@@ -101,13 +101,18 @@ fn is_same(start: &Start, other: &Start) -> bool {
         && start.ruined == other.ruined
 }
 
+/// Whether the start of the image is this one, and a judge can start from it.
+fn starts_from(alloc: Global, image: &Image, wanted: &Start) -> bool {
+    match start_of(alloc, image) {
+        Ok(start) => is_same(&start, wanted) && Judge::from_start(alloc, &start).is_ok(),
+        Err(_) => false,
+    }
+}
+
 /// Whether the start of the image is the one in the text, and a judge can start from it.
 fn starts_as(alloc: Global, image: &Image, text: &str) -> bool {
-    let Ok(wanted) = judges::start_of(alloc, text) else {
-        return false;
-    };
-    match start_of(alloc, image) {
-        Ok(start) => is_same(&start, &wanted) && Judge::from_start(alloc, &start).is_ok(),
+    match judges::start_of(alloc, text) {
+        Ok(wanted) => starts_from(alloc, image, &wanted),
         Err(_) => false,
     }
 }
@@ -132,7 +137,7 @@ fn is_seen(image: &Image) -> bool {
 fn is_so(alloc: Global, image: &Image, asked: &str) -> bool {
     let phrase = Phrase::read(asked);
     match place("written|widened|start|seen", phrase.word) {
-        Some(0) => is_written(alloc, image, text_of(phrase.rest)),
+        Some(0) => is_written(alloc, image, text_of(phrase.rest).as_bytes()),
         Some(1) => is_widened(alloc, image, phrase.number(0), text_of(phrase.rest)),
         Some(2) => starts_as(alloc, image, phrase.rest),
         Some(_) => is_seen(image),
@@ -150,38 +155,6 @@ pub fn holds(alloc: Global, row: &str) -> bool {
     }
 }
 
-pub const TEXTS: &str = "\
-images: texts are written as they were read
-smallest: written smallest
-torn: written torn
-widened-torn: written widened-torn
-wide-torn: written wide-torn
-shown: written shown
-widened-shown: written widened-shown
-spaced: written smallest
-older: written smallest
-twice: written smallest
-escaped: written smallest";
-
-pub const WIDER: &str = "\
-images: wider images
-torn: widened 1 torn
-torn: widened 2 widened-torn
-shown: widened 3 widened-shown
-wide-torn: widened 3 wide-torn
-wide-torn: widened 2
-torn: widened 0
-torn: widened 9";
-
-/// The starts of images, who is ahead in them, and the functions that the rules use.
-pub const STARTS: &str = "\
-images: starts
-torn: start sizes 1 2; dead-in; pending 0 1 77
-smallest: start sizes 1 1; dead-in
-shown: start sizes 1 1; dead-in; shown 0 1 77
-four: start sizes 4 1; door 1 2; ready 2; ready; out; closed; ruined
-shown: seen";
-
 /// The rule that a text breaks. 98: out of memory.
 fn rule_of(alloc: Global, text: &[u8]) -> Option<u64> {
     match read_image(alloc, text) {
@@ -195,68 +168,15 @@ fn rule_of(alloc: Global, text: &[u8]) -> Option<u64> {
 pub fn breaks_rule(alloc: Global, head: &str, row: &str) -> bool {
     let mut members = row;
     let rule = cut(&mut members, " ").parse::<u64>();
-    match joined(alloc, head, members) {
-        Ok(text) => rule.is_ok() && rule_of(alloc, &text).unwrap_or(0) == rule.unwrap_or(99),
-        Err(_) => false,
-    }
+    let mut text = Vec::new(alloc);
+    text.extend_from_slice(head.as_bytes()).is_ok()
+        && text.extend_from_slice(members.as_bytes()).is_ok()
+        && rule.is_ok()
+        && rule_of(alloc, &text).unwrap_or(0) == rule.unwrap_or(99)
 }
-
-fn joined(alloc: Global, head: &str, members: &str) -> Result<Vec<u8>, Refusal> {
-    let mut text = Vec::from_slice(alloc, head.as_bytes())?;
-    text.extend_from_slice(members.as_bytes())?;
-    Ok(text)
-}
-
-/// Broken forms, broken locks and broken mailboxes: a line for each, after the rule that it breaks.
-pub const BROKEN: &str = r#"texts: broken texts
-1 []
-1 {"cap":-1,"data":[0,0,0,0,0,0,0,0,0,0,0,0,0,0,0],"limit":10,"lock":[[0,1,1]],"version":2,"width":1}
-2 {"cap":1,"data":[0,0,0,0,0,0,0,0,0,0,0,0,0,0,0],"limit":10,"lock":[[0,1,1]],"version":7,"width":1}
-3 {"cap":1,"data":[0,0,0,0,0,0,0,0,0,0,0,0,0,0,0],"limit":10,"lock":[],"version":2,"width":1}
-4 {"cap":1,"data":[0,0,0,0,0,0,0,0,0,0,0,0,0,0],"limit":10,"lock":[[0,1,1]],"version":2,"width":1}
-5 {"cap":1,"data":[0,0,0,0,0,0,0,0,0,0,0,0,0,0,0],"limit":10,"lock":[[1,0,1]],"version":2,"width":1}
-5 {"cap":1,"data":[0,0,0,0,0,0,0,0,0,0,0,0,0,0,0],"limit":10,"lock":[[0,11,0]],"version":2,"width":1}
-6 {"cap":1,"data":[0,0,0,0,0,0,0,0,0,0,0,0,0,0,0,0],"limit":10,"lock":[[0,2,1],[0,1,0]],"version":2,"width":1}
-6 {"cap":1,"data":[0,0,0,0,0,0,0,0,0,0,0,0,0,0,0,0],"limit":10,"lock":[[0,1,0],[0,1,1]],"version":2,"width":1}
-6 {"cap":1,"data":[0,0,0,0,0,0,0,0,0,0,0,0,0,0,0,0],"limit":10,"lock":[[0,1,1],[0,2,1]],"version":2,"width":1}
-7 {"cap":1,"data":[0,1,0,1,0,0,0,0,0,0,0,0,0,0,0],"limit":10,"lock":[[0,1,1]],"version":2,"width":1}
-8 {"cap":1,"data":[0,0,1,0,0,0,0,0,0,0,0,0,0,0,0],"limit":10,"lock":[[0,1,1]],"version":2,"width":1}
-9 {"cap":1,"data":[0,0,0,1,0,0,0,0,0,0,0,0,0,0,0],"limit":10,"lock":[[0,0,0]],"version":2,"width":1}
-9 {"cap":1,"data":[0,0,0,1,0,1,0,0,0,0,0,0,0,0,0],"limit":10,"lock":[[0,0,0]],"version":2,"width":1}"#;
 
 /// A capacity, data words and a limit that break no rule.
 pub const HEAD: &str = "{\"cap\":1,\"data\":[0,0,0,0,0,0,0,0,0,0,0,0,0,0,0],\"limit\":10,";
-
-/// The other members, and the rule that each line breaks. 0: none. The width is a member of version 2 alone. A number is
-/// whole, without sign, point or exponent, and fits in 64 bits. A process has three lock words. No member is missing, and
-/// none is unknown.
-pub const MEMBERS: &str = r#"members: members
-2 "lock":[[0,1,1]],"version":2}
-2 "lock":[[0,1,1]],"version":1,"width":1}
-2 "lock":[[0,1,1]],"version":0}
-0 "lock":[[0,1,1]],"version":1}
-3 "lock":[[0,1,1]],"version":2,"width":0}
-3 "lock":[[0,1,1]],"version":2,"width":9}
-4 "lock":[[0,1,1]],"version":2,"width":2}
-1 "lock":[[0,1,1]],"version":2,"width":-0}
-1 "lock":[[0,1,1]],"version":2,"width":1.0}
-1 "lock":[[0,1,1]],"version":2,"width":1e0}
-1 "lock":[[0,1,1]],"version":2,"width":"1"}
-1 "lock":[[0,1,1]],"version":2,"width":null}
-1 "lock":[[0,1,1]],"version":18446744073709551616,"width":1}
-2 "lock":[[0,1,1]],"version":18446744073709551615,"width":1}
-1 "lock":[[0,1,1]],"version":1e999,"width":1}
-1 "lock":[[0,1]],"version":2,"width":1}
-1 "lock":[[0,1,1,0]],"version":2,"width":1}
-1 "lock":[[0,1,true]],"version":2,"width":1}
-1 "lock":[0,1,1],"version":2,"width":1}
-1 "lock":{},"version":2,"width":1}
-1 "lock":[[0,1,1]],"width":1}
-1 "lock":[[0,1,1]]}
-1 "lock":[[0,1,1]],"version":2,"width":1,"wide":1}
-1 "lock":[[0,1,1]],"version":2,"width":1,"zone":1}
-1 "lock":[[0,1,1]],"version":2,"width":1,"\ud800":1}
-1 "lock":[[0,1,1]],"version":2,"width":1} 1"#;
 
 /// Writes the image of *smallest* with this number of data words.
 fn put_data(text: &mut Vec<u8>, count: u64) -> Result<(), AllocError> {
@@ -327,7 +247,84 @@ pub fn is_rule(alloc: Global, row: &str) -> bool {
     }
 }
 
-pub const BY_HAND: &str = "\
+/// Texts, images and the rules that they break.
+pub const TABLES: &str = r#"images: texts are written as they were read
+smallest: written smallest
+torn: written torn
+widened-torn: written widened-torn
+wide-torn: written wide-torn
+shown: written shown
+widened-shown: written widened-shown
+spaced: written smallest
+older: written smallest
+twice: written smallest
+escaped: written smallest
+
+images: wider images
+torn: widened 1 torn
+torn: widened 2 widened-torn
+shown: widened 3 widened-shown
+wide-torn: widened 3 wide-torn
+wide-torn: widened 2
+torn: widened 0
+torn: widened 9
+
+images: starts
+# The starts of images, who is ahead in them, and the functions that the rules use.
+torn: start sizes 1 2; dead-in; pending 0 1 77
+smallest: start sizes 1 1; dead-in
+shown: start sizes 1 1; dead-in; shown 0 1 77
+four: start sizes 4 1; door 1 2; ready 2; ready; out; closed; ruined
+shown: seen
+
+texts: broken texts
+# Broken forms, broken locks and broken mailboxes: a line for each, after the rule that it breaks.
+1 []
+1 {"cap":-1,"data":[0,0,0,0,0,0,0,0,0,0,0,0,0,0,0],"limit":10,"lock":[[0,1,1]],"version":2,"width":1}
+2 {"cap":1,"data":[0,0,0,0,0,0,0,0,0,0,0,0,0,0,0],"limit":10,"lock":[[0,1,1]],"version":7,"width":1}
+3 {"cap":1,"data":[0,0,0,0,0,0,0,0,0,0,0,0,0,0,0],"limit":10,"lock":[],"version":2,"width":1}
+4 {"cap":1,"data":[0,0,0,0,0,0,0,0,0,0,0,0,0,0],"limit":10,"lock":[[0,1,1]],"version":2,"width":1}
+5 {"cap":1,"data":[0,0,0,0,0,0,0,0,0,0,0,0,0,0,0],"limit":10,"lock":[[1,0,1]],"version":2,"width":1}
+5 {"cap":1,"data":[0,0,0,0,0,0,0,0,0,0,0,0,0,0,0],"limit":10,"lock":[[0,11,0]],"version":2,"width":1}
+6 {"cap":1,"data":[0,0,0,0,0,0,0,0,0,0,0,0,0,0,0,0],"limit":10,"lock":[[0,2,1],[0,1,0]],"version":2,"width":1}
+6 {"cap":1,"data":[0,0,0,0,0,0,0,0,0,0,0,0,0,0,0,0],"limit":10,"lock":[[0,1,0],[0,1,1]],"version":2,"width":1}
+6 {"cap":1,"data":[0,0,0,0,0,0,0,0,0,0,0,0,0,0,0,0],"limit":10,"lock":[[0,1,1],[0,2,1]],"version":2,"width":1}
+7 {"cap":1,"data":[0,1,0,1,0,0,0,0,0,0,0,0,0,0,0],"limit":10,"lock":[[0,1,1]],"version":2,"width":1}
+8 {"cap":1,"data":[0,0,1,0,0,0,0,0,0,0,0,0,0,0,0],"limit":10,"lock":[[0,1,1]],"version":2,"width":1}
+9 {"cap":1,"data":[0,0,0,1,0,0,0,0,0,0,0,0,0,0,0],"limit":10,"lock":[[0,0,0]],"version":2,"width":1}
+9 {"cap":1,"data":[0,0,0,1,0,1,0,0,0,0,0,0,0,0,0],"limit":10,"lock":[[0,0,0]],"version":2,"width":1}
+
+members: members
+# The other members, and the rule that each line breaks. 0: none. The width is a member of version 2 alone. A number is
+# whole, without sign, point or exponent, and fits in 64 bits. A process has three lock words. No member is missing, and
+# none is unknown.
+2 "lock":[[0,1,1]],"version":2}
+2 "lock":[[0,1,1]],"version":1,"width":1}
+2 "lock":[[0,1,1]],"version":0}
+0 "lock":[[0,1,1]],"version":1}
+3 "lock":[[0,1,1]],"version":2,"width":0}
+3 "lock":[[0,1,1]],"version":2,"width":9}
+4 "lock":[[0,1,1]],"version":2,"width":2}
+1 "lock":[[0,1,1]],"version":2,"width":-0}
+1 "lock":[[0,1,1]],"version":2,"width":1.0}
+1 "lock":[[0,1,1]],"version":2,"width":1e0}
+1 "lock":[[0,1,1]],"version":2,"width":"1"}
+1 "lock":[[0,1,1]],"version":2,"width":null}
+1 "lock":[[0,1,1]],"version":18446744073709551616,"width":1}
+2 "lock":[[0,1,1]],"version":18446744073709551615,"width":1}
+1 "lock":[[0,1,1]],"version":1e999,"width":1}
+1 "lock":[[0,1]],"version":2,"width":1}
+1 "lock":[[0,1,1,0]],"version":2,"width":1}
+1 "lock":[[0,1,true]],"version":2,"width":1}
+1 "lock":[0,1,1],"version":2,"width":1}
+1 "lock":{},"version":2,"width":1}
+1 "lock":[[0,1,1]],"width":1}
+1 "lock":[[0,1,1]]}
+1 "lock":[[0,1,1]],"version":2,"width":1,"wide":1}
+1 "lock":[[0,1,1]],"version":2,"width":1,"zone":1}
+1 "lock":[[0,1,1]],"version":2,"width":1,"\ud800":1}
+1 "lock":[[0,1,1]],"version":2,"width":1} 1
+
 versions: images made by hand
 version 1 1
 version 2 1
@@ -335,4 +332,4 @@ version 1 2 2
 version 1 9 2
 version 3 1 2
 version 2 9 3
-version 2 0 3";
+version 2 0 3"#;

@@ -59,58 +59,6 @@ pub fn holds(alloc: Global, sizes: &Phrase<'_>, rest: &str) -> bool {
     }
 }
 
-pub const LISTS: &str = "\
-judges: worked lists
-# 0 is ready before 1 begins, so 1 can't enter first
-sizes 2 2: begin 0; ready 0; begin 1; ready 1; enter 1 overtaken 1 0
-sizes 2 2: begin 0; ready 0; begin 1; ready 1; enter 0
-# no process is inside, so nothing can be committed
-sizes 1 2: commit 0 1 5 not-inside
-# after 0 has withdrawn, 1 waits for no process
-sizes 2 2: begin 0; ready 0; begin 1; ready 1; quit 0; enter 1
-sizes 2 2: begin 0; quit 0; begin 1; ready 1; enter 1
-# 0 leaves or quits before 1 enters
-sizes 2 2: begin 0; ready 0; begin 1; ready 1; enter 0; leave 0; enter 1
-# 0 is in the doorway again, so 1 enters first
-sizes 2 2: begin 0; ready 0; begin 1; ready 1; quit 0; begin 0; ready 0; enter 0 overtaken 0 1
-# a message is committed and shown; no process leaves while a message is pending, unless the lock is ruined
-sizes 1 2: begin 0; ready 0; enter 0; commit 0 1 7 8; show 0 0 1 7 8; leave 0
-sizes 1 2: begin 0; ready 0; enter 0; commit 0 1 7 8; leave 0 mail-order
-sizes 1 2: begin 0; ready 0; enter 0; commit 0 1 7 8; ruin 0; leave 0
-# the message shown is the one committed, in its width too; a process that crashed inside shows it later
-sizes 1 2: begin 0; ready 0; enter 0; commit 0 1 7 8; show 0 0 1 7 mail-order
-sizes 1 2: begin 0; ready 0; enter 0; commit 0 1 7; crash 0; reenter 0; show 0 0 1 7; close 0; leave 0";
-
-/// Each fault, for the first and for the last process. A process that does not exist has no deed, not even a crash. If two
-/// processes are ahead, the lesser is named.
-pub const FAULTS: &str = "\
-judges: each fault
-sizes 64 2: ready 0 out-of-place
-sizes 64 2: ready 63 out-of-place
-sizes 64 2: begin 0; ready 0; begin 63; ready 63; enter 0; leave 0; begin 0; ready 0; enter 63; enter 0 two-inside
-sizes 64 2: begin 63; ready 63; begin 0; ready 0; enter 63; leave 63; begin 63; ready 63; enter 0; enter 63 two-inside
-sizes 64 2: begin 63; ready 63; begin 0; ready 0; enter 63; crash 63; enter 0 not-reentered
-sizes 64 2: begin 0; ready 0; begin 63; ready 63; enter 0; crash 0; enter 63 not-reentered
-sizes 64 2: begin 63; ready 63; begin 0; ready 0; enter 0 overtaken 0 63
-sizes 64 2: begin 0; ready 0; begin 63; ready 63; enter 63 overtaken 63 0
-sizes 64 2: begin 0; ready 0; close 0 not-inside
-sizes 64 2: begin 63; ready 63; close 63 not-inside
-sizes 64 2: begin 0; ready 0; enter 0; commit 0 2 5 mail-order
-sizes 64 2: begin 63; ready 63; enter 63; commit 63 2 5 mail-order
-sizes 64 2: begin 0; ready 0; enter 0; close 0; commit 0 1 5 after-close
-sizes 64 2: begin 63; ready 63; enter 63; close 63; commit 63 1 5 after-close
-sizes 64 2: crash 64 out-of-place
-sizes 64 2: begin 40; ready 40; begin 9; ready 9; begin 63; ready 63; enter 63 overtaken 63 9";
-
-pub const LIMITS: &str = "\
-judges: limits
-sizes 0 0: refused 1
-sizes 65 1: refused 1
-sizes 64 0: refused 8
-sizes 1 65537: refused 8
-sizes 64 65536: begin 0
-sizes 1 1: begin 0";
-
 /// A start, read from a text. `sizes 3 2` comes first. Then a line for each process has its phase and the processes ahead of
 /// it, as in `ready 0 1`. `lone out` is a phase without a set, `set 1` a set without a phase. `shown` and `pending` have a
 /// message. `closed` and `ruined` have no value.
@@ -213,18 +161,73 @@ pub fn start_of(alloc: Global, text: &str) -> Result<Start, AllocError> {
     })
 }
 
-/// A row on a judge from a start: the start, and then deeds, or the refusal of the start.
-pub fn holds_from(alloc: Global, start: &str, rest: &str) -> bool {
-    let Ok(start) = start_of(alloc, start) else {
-        return false;
-    };
-    match Judge::from_start(alloc, &start) {
+/// Whether a judge from this start judges the deeds as they say, or is refused as the row says.
+fn goes_on(alloc: Global, start: &Start, rest: &str) -> bool {
+    match Judge::from_start(alloc, start) {
         Ok(mut judge) => are_judged(&mut judge, rest),
         Err(refusal) => is_refusal(refusal, rest),
     }
 }
 
-pub const STARTS: &str = "\
+/// A row on a judge from a start: the start, and then deeds, or the refusal of the start.
+pub fn holds_from(alloc: Global, start: &str, rest: &str) -> bool {
+    match start_of(alloc, start) {
+        Ok(start) => goes_on(alloc, &start, rest),
+        Err(_) => false,
+    }
+}
+
+/// Lists of deeds, and starts.
+pub const TABLES: &str = "\
+judges: worked lists
+# 0 is ready before 1 begins, so 1 can't enter first
+sizes 2 2: begin 0; ready 0; begin 1; ready 1; enter 1 overtaken 1 0
+sizes 2 2: begin 0; ready 0; begin 1; ready 1; enter 0
+# no process is inside, so nothing can be committed
+sizes 1 2: commit 0 1 5 not-inside
+# after 0 has withdrawn, 1 waits for no process
+sizes 2 2: begin 0; ready 0; begin 1; ready 1; quit 0; enter 1
+sizes 2 2: begin 0; quit 0; begin 1; ready 1; enter 1
+# 0 leaves or quits before 1 enters
+sizes 2 2: begin 0; ready 0; begin 1; ready 1; enter 0; leave 0; enter 1
+# 0 is in the doorway again, so 1 enters first
+sizes 2 2: begin 0; ready 0; begin 1; ready 1; quit 0; begin 0; ready 0; enter 0 overtaken 0 1
+# a message is committed and shown; no process leaves while a message is pending, unless the lock is ruined
+sizes 1 2: begin 0; ready 0; enter 0; commit 0 1 7 8; show 0 0 1 7 8; leave 0
+sizes 1 2: begin 0; ready 0; enter 0; commit 0 1 7 8; leave 0 mail-order
+sizes 1 2: begin 0; ready 0; enter 0; commit 0 1 7 8; ruin 0; leave 0
+# the message shown is the one committed, in its width too; a process that crashed inside shows it later
+sizes 1 2: begin 0; ready 0; enter 0; commit 0 1 7 8; show 0 0 1 7 mail-order
+sizes 1 2: begin 0; ready 0; enter 0; commit 0 1 7; crash 0; reenter 0; show 0 0 1 7; close 0; leave 0
+
+judges: each fault
+# Each fault, for the first and for the last process. A process that does not exist has no deed, not even a crash. If
+# two processes are ahead, the lesser is named.
+sizes 64 2: ready 0 out-of-place
+sizes 64 2: ready 63 out-of-place
+sizes 64 2: begin 0; ready 0; begin 63; ready 63; enter 0; leave 0; begin 0; ready 0; enter 63; enter 0 two-inside
+sizes 64 2: begin 63; ready 63; begin 0; ready 0; enter 63; leave 63; begin 63; ready 63; enter 0; enter 63 two-inside
+sizes 64 2: begin 63; ready 63; begin 0; ready 0; enter 63; crash 63; enter 0 not-reentered
+sizes 64 2: begin 0; ready 0; begin 63; ready 63; enter 0; crash 0; enter 63 not-reentered
+sizes 64 2: begin 63; ready 63; begin 0; ready 0; enter 0 overtaken 0 63
+sizes 64 2: begin 0; ready 0; begin 63; ready 63; enter 63 overtaken 63 0
+sizes 64 2: begin 0; ready 0; close 0 not-inside
+sizes 64 2: begin 63; ready 63; close 63 not-inside
+sizes 64 2: begin 0; ready 0; enter 0; commit 0 2 5 mail-order
+sizes 64 2: begin 63; ready 63; enter 63; commit 63 2 5 mail-order
+sizes 64 2: begin 0; ready 0; enter 0; close 0; commit 0 1 5 after-close
+sizes 64 2: begin 63; ready 63; enter 63; close 63; commit 63 1 5 after-close
+sizes 64 2: crash 64 out-of-place
+sizes 64 2: begin 40; ready 40; begin 9; ready 9; begin 63; ready 63; enter 63 overtaken 63 9
+
+judges: limits
+sizes 0 0: refused 1
+sizes 65 1: refused 1
+sizes 64 0: refused 8
+sizes 1 65537: refused 8
+sizes 64 65536: begin 0
+sizes 1 1: begin 0
+
 starts: refusals
 # the refusals in order
 sizes 0 0; inside: refused 1
@@ -244,9 +247,8 @@ sizes 2 2; out; lone out: refused 11
 sizes 2 2; door 1; ready 1 0: refused 11
 sizes 2 2; door 1; ready 1 2: refused 11
 sizes 2 2; door 1; ready 1 64: refused 11
-sizes 2 2; door 1; ready 1 18446744073709551615: refused 11";
+sizes 2 2; door 1; ready 1 18446744073709551615: refused 11
 
-pub const MESSAGES_OF_STARTS: &str = "\
 starts: messages
 sizes 1 2; out; shown 0 1 7; shown 0 2 7
 # a number is missing, or occurs twice
@@ -264,10 +266,9 @@ sizes 1 2; out; shown 0 1 7; pending 1 1 7: refused 11
 sizes 1 2; out; shown 0 1 7; shown 0 2 7; pending 0 3 7: refused 11
 sizes 1 2; out; shown 0 1 7; pending 0 2 7
 # pending in a closed mailbox
-sizes 1 2; out; shown 0 1 7; pending 0 2 7; closed: refused 11";
+sizes 1 2; out; shown 0 1 7; pending 0 2 7; closed: refused 11
 
-/// From a start with 0 dead in and its message pending, and 1 ready and ahead of 2. At the end two messages are shown, and
-/// the capacity is two.
-pub const GOING_ON: &str = "\
 starts: going on
+# From a start with 0 dead in and its message pending, and 1 ready and ahead of 2. At the end two messages are shown,
+# and the capacity is two.
 sizes 3 2; dead-in 1 1; ready; ready 1; shown 1 1 5; pending 0 1 7: enter 2 not-reentered; reenter 0; leave 0 mail-order; show 0 1 1 7; leave 0; enter 2 overtaken 2 1; enter 1; leave 1; enter 2; commit 2 1 9 mail-order";

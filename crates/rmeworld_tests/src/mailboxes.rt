@@ -15,18 +15,6 @@ const ONE: Layout = Layout {
     width: 1,
 };
 
-/// Two senders in a mailbox with a capacity of two messages and two words a value: tasks of processes, each with the number of
-/// its calls of the cells and its reply.
-pub const EVERY_REPLY: &str = "\
-memory: every reply
-sizes 2 2 2 22: append 0 0 1 2: calls 3 out-of-order; append 0 2 1 2: calls 3 out-of-order; append 0 1 1 2: calls 15 stored; append 0 1 3 4: calls 3 already; append 1 1 3 4: calls 15 stored; put 1 3 9: calls 1 put; get 0 3: calls 1 word 9; get 0 2: calls 1 word 0; append 0 2 1 2: calls 3 full; close 0: calls 2 closed-now; close 1: calls 1 already-closed; append 0 2 1 2: calls 3 closed; append 0 1 1 2: calls 3 already; repair 1: calls 1 nothing-to-mend; check 1: calls 1 not-ruined; ruin 1: calls 1 put; check 0: calls 1 ruined | message 0 1 1 2; message 1 1 3 4 | 1 1 2 0 1 1 3 4 0 0 0 9 1 1 0 1 1 2 1 1 3 4";
-
-/// A repair of a record that was applied already, with a capacity of two: count stays. The last of the append's 13 calls
-/// would clear armed.
-pub const REPAIR_OF_WHAT_IS_DONE: &str = "\
-memory: repair of what is done
-sizes 1 2 1 18: append 0 1 5: stops 13; heads 1 1; repair 0: calls 10 mended; heads 1 0 | message 0 1 5";
-
 /// The number of a task's refusal, in a mailbox of these sizes. 0: it is not refused. 99: there is no such task.
 fn refusal_of(sizes: &str, task: &str) -> u64 {
     let sizes = Phrase::read(sizes);
@@ -53,22 +41,6 @@ pub fn is_refused(row: &str) -> bool {
     let task = cut(&mut rest, ": ");
     rest.parse::<u64>() == Ok(refusal_of(sizes, task))
 }
-
-/// Each cause of a refusal, and their order.
-pub const REFUSALS: &str = "\
-tasks: refusals in order
-sizes 0 0 0: get 9 4: 1
-sizes 65 1 1: close 0: 1
-sizes 1 0 0: get 9 4: 8
-sizes 1 65537 0: get 9 4: 8
-sizes 1 1 0: get 1 4: 3
-sizes 1 1 0: put 0 4 1: 13
-sizes 1 1 0: get 0 3: 15
-sizes 1 1 9: repair 0: 15
-sizes 64 65536 1: append 63 1 1 2: 15
-sizes 64 65536 3: append 63 1 1 2: 15
-sizes 64 65536 2: append 63 1 1 2: 0
-sizes 1 1 8: put 0 3 5: 0";
 
 /// Whether a job is as the line says: `feed 5` feeds it, `get 4` and `put 1 1` are its next access, and `done mended` its
 /// end. `silent` and `replied mended` are its reply.
@@ -115,24 +87,6 @@ pub fn is_job(row: &str) -> bool {
     true
 }
 
-/// Any value of armed except 0 counts as 1, on words that no lawful image has. For closed and ruined only 1 counts. A job
-/// that is done ignores further words.
-pub const ODD_FLAGS: &str = "\
-jobs: odd flags
-repair 0: feed 0; done nothing-to-mend
-repair 0: feed 1; get 4
-repair 0: feed 5; get 4
-close 0: feed 1; done already-closed
-close 0: feed 5; put 1 1
-check 0: feed 5; done not-ruined
-check 0: get 0; feed 1; done ruined; feed 0; done ruined";
-
-/// `consistent` first reads whether the lock is ruined. If so, that is its reply. If not, the repair comes next.
-pub const CONSISTENT_ASKS_FIRST: &str = "\
-jobs: consistent asks first
-consistent 0: get 0; silent; feed 1; replied ruined
-consistent 0: feed 0; get 3; silent";
-
 /// Sums and products saturate at the greatest u64, for a place that no layout has.
 pub fn indexes_are_held() -> bool {
     let layout = Layout {
@@ -169,54 +123,14 @@ pub fn is_content(alloc: Global, sizes: &Phrase<'_>, row: &str) -> bool {
         *word = number;
         count = count.saturating_add(1);
     }
-    match content(alloc, layout, words.get(..count).unwrap_or(&[])) {
-        Ok(_) => is_sound,
-        Err(refusal) => !is_sound && refusal == Refusal::BadShape,
-    }
+    let refusal = content(alloc, layout, words.get(..count).unwrap_or(&[])).err();
+    refusal
+        == if is_sound {
+            None
+        } else {
+            Some(Refusal::BadShape)
+        }
 }
-
-/// Words that break a rule each.
-pub const BROKEN_WORDS: &str = "\
-contents: broken words
-# a message that is shown, and the same with one word changed
-sizes 1 1 1: sound 0 0 1 0 0 1 77 0 0 0 0 1 0 1 77
-sizes 1 1 1: broken 2 0 1 0 0 1 77 0 0 0 0 1 0 1 77
-sizes 1 1 1: broken 0 2 1 0 0 1 77 0 0 0 0 1 0 1 77
-sizes 1 1 1: broken 0 0 2 0 0 1 77 0 0 0 0 1 0 1 77
-sizes 1 1 1: broken 0 0 1 2 0 1 77 0 0 0 0 1 0 1 77
-sizes 1 1 1: broken 0 0 1 0 0 1 77 0 0 0 0 0 0 1 77
-sizes 1 1 1: broken 0 0 1 0 0 1 77 0 0 0 0 1 1 1 77
-sizes 1 1 1: broken 0 0 1 0 0 1 77 0 0 0 0 1 0 2 77
-# another number of words, and sizes outside the limits
-sizes 1 1 1: broken 0 0 1 0 0 1 77 0 0 0 0 1 0 1
-sizes 1 1 1: broken
-sizes 1 1 9: broken 0 0 0 0 0 0 0 0 0 0 0 0 0 0 0 0 0 0 0 0 0 0 0 0 0 0 0 0 0 0 0
-sizes 1 1 0: broken 0 0 0 0 0 0 0 0 0 0 0 0 0
-sizes 1 18446744073709551615 1: broken 0 0 1 0 0 1 77 0 0 0 0 1 0 1 77";
-
-/// Words with an armed record after each apply step, and the same with one word changed.
-pub const TORN_WORDS: &str = "\
-contents: torn words
-# armed, nothing applied
-sizes 1 1 1: sound 0 0 0 1 0 1 77 0 0 0 0 0 0 0 0
-sizes 1 1 1: broken 0 1 0 1 0 1 77 0 0 0 0 0 0 0 0
-sizes 1 1 1: broken 0 0 0 1 1 1 77 0 0 0 0 0 0 0 0
-sizes 1 1 1: broken 0 0 0 1 0 2 77 0 0 0 0 0 0 0 0
-sizes 1 1 1: broken 0 0 0 1 0 1 77 0 0 0 0 2 0 0 0
-# the entry and the last number are written
-sizes 1 1 1: sound 0 0 0 1 0 1 77 0 0 0 0 1 0 1 77
-sizes 1 1 1: broken 0 0 0 1 0 2 77 0 0 0 0 1 0 1 77
-sizes 1 1 1: broken 0 0 0 1 0 1 78 0 0 0 0 1 0 1 77
-sizes 1 1 1: broken 0 0 0 1 0 1 77 0 0 0 0 2 0 1 77
-sizes 1 1 1: broken 0 0 0 1 0 1 77 0 0 0 0 1 0 2 77
-sizes 1 1 1: broken 0 0 0 1 0 1 77 0 0 0 0 1 0 1 78
-# count is written too
-sizes 1 1 1: sound 0 0 1 1 0 1 77 0 0 0 0 1 0 1 77
-sizes 1 1 1: broken 0 0 1 1 0 2 77 0 0 0 0 1 0 1 77
-sizes 1 1 1: broken 0 0 1 1 0 1 78 0 0 0 0 1 0 1 77
-sizes 1 1 1: broken 0 0 1 1 0 1 77 0 0 0 0 2 0 1 77
-sizes 1 1 1: broken 0 0 1 1 0 1 77 0 0 0 0 1 0 2 77
-sizes 1 1 1: broken 0 0 1 1 0 1 77 0 0 0 0 1 0 1 78";
 
 const SOUND: [u64; 15] = [0, 0, 1, 0, 0, 1, 77, 0, 0, 0, 0, 1, 0, 1, 77];
 
@@ -241,3 +155,87 @@ pub fn needs_memory(alloc: Global) -> bool {
     }
     false
 }
+
+/// Tasks, jobs and contents.
+pub const TABLES: &str = "\
+memory: every reply
+# Two senders in a mailbox with a capacity of two messages and two words a value: tasks of processes, each with the
+# number of its calls of the cells and its reply.
+sizes 2 2 2 22: append 0 0 1 2: calls 3 out-of-order; append 0 2 1 2: calls 3 out-of-order; append 0 1 1 2: calls 15 stored; append 0 1 3 4: calls 3 already; append 1 1 3 4: calls 15 stored; put 1 3 9: calls 1 put; get 0 3: calls 1 word 9; get 0 2: calls 1 word 0; append 0 2 1 2: calls 3 full; close 0: calls 2 closed-now; close 1: calls 1 already-closed; append 0 2 1 2: calls 3 closed; append 0 1 1 2: calls 3 already; repair 1: calls 1 nothing-to-mend; check 1: calls 1 not-ruined; ruin 1: calls 1 put; check 0: calls 1 ruined | message 0 1 1 2; message 1 1 3 4 | 1 1 2 0 1 1 3 4 0 0 0 9 1 1 0 1 1 2 1 1 3 4
+
+memory: repair of what is done
+# A repair of a record that was applied already, with a capacity of two: count stays. The last of the append's 13 calls
+# would clear armed.
+sizes 1 2 1 18: append 0 1 5: stops 13; heads 1 1; repair 0: calls 10 mended; heads 1 0 | message 0 1 5
+
+contents: broken words
+# Words that break a rule each.
+# a message that is shown, and the same with one word changed
+sizes 1 1 1: sound 0 0 1 0 0 1 77 0 0 0 0 1 0 1 77
+sizes 1 1 1: broken 2 0 1 0 0 1 77 0 0 0 0 1 0 1 77
+sizes 1 1 1: broken 0 2 1 0 0 1 77 0 0 0 0 1 0 1 77
+sizes 1 1 1: broken 0 0 2 0 0 1 77 0 0 0 0 1 0 1 77
+sizes 1 1 1: broken 0 0 1 2 0 1 77 0 0 0 0 1 0 1 77
+sizes 1 1 1: broken 0 0 1 0 0 1 77 0 0 0 0 0 0 1 77
+sizes 1 1 1: broken 0 0 1 0 0 1 77 0 0 0 0 1 1 1 77
+sizes 1 1 1: broken 0 0 1 0 0 1 77 0 0 0 0 1 0 2 77
+# another number of words, and sizes outside the limits
+sizes 1 1 1: broken 0 0 1 0 0 1 77 0 0 0 0 1 0 1
+sizes 1 1 1: broken
+sizes 1 1 9: broken 0 0 0 0 0 0 0 0 0 0 0 0 0 0 0 0 0 0 0 0 0 0 0 0 0 0 0 0 0 0 0
+sizes 1 1 0: broken 0 0 0 0 0 0 0 0 0 0 0 0 0
+sizes 1 18446744073709551615 1: broken 0 0 1 0 0 1 77 0 0 0 0 1 0 1 77
+
+contents: torn words
+# Words with an armed record after each apply step, and the same with one word changed.
+# armed, nothing applied
+sizes 1 1 1: sound 0 0 0 1 0 1 77 0 0 0 0 0 0 0 0
+sizes 1 1 1: broken 0 1 0 1 0 1 77 0 0 0 0 0 0 0 0
+sizes 1 1 1: broken 0 0 0 1 1 1 77 0 0 0 0 0 0 0 0
+sizes 1 1 1: broken 0 0 0 1 0 2 77 0 0 0 0 0 0 0 0
+sizes 1 1 1: broken 0 0 0 1 0 1 77 0 0 0 0 2 0 0 0
+# the entry and the last number are written
+sizes 1 1 1: sound 0 0 0 1 0 1 77 0 0 0 0 1 0 1 77
+sizes 1 1 1: broken 0 0 0 1 0 2 77 0 0 0 0 1 0 1 77
+sizes 1 1 1: broken 0 0 0 1 0 1 78 0 0 0 0 1 0 1 77
+sizes 1 1 1: broken 0 0 0 1 0 1 77 0 0 0 0 2 0 1 77
+sizes 1 1 1: broken 0 0 0 1 0 1 77 0 0 0 0 1 0 2 77
+sizes 1 1 1: broken 0 0 0 1 0 1 77 0 0 0 0 1 0 1 78
+# count is written too
+sizes 1 1 1: sound 0 0 1 1 0 1 77 0 0 0 0 1 0 1 77
+sizes 1 1 1: broken 0 0 1 1 0 2 77 0 0 0 0 1 0 1 77
+sizes 1 1 1: broken 0 0 1 1 0 1 78 0 0 0 0 1 0 1 77
+sizes 1 1 1: broken 0 0 1 1 0 1 77 0 0 0 0 2 0 1 77
+sizes 1 1 1: broken 0 0 1 1 0 1 77 0 0 0 0 1 0 2 77
+sizes 1 1 1: broken 0 0 1 1 0 1 77 0 0 0 0 1 0 1 78
+
+tasks: refusals in order
+# Each cause of a refusal, and their order.
+sizes 0 0 0: get 9 4: 1
+sizes 65 1 1: close 0: 1
+sizes 1 0 0: get 9 4: 8
+sizes 1 65537 0: get 9 4: 8
+sizes 1 1 0: get 1 4: 3
+sizes 1 1 0: put 0 4 1: 13
+sizes 1 1 0: get 0 3: 15
+sizes 1 1 9: repair 0: 15
+sizes 64 65536 1: append 63 1 1 2: 15
+sizes 64 65536 3: append 63 1 1 2: 15
+sizes 64 65536 2: append 63 1 1 2: 0
+sizes 1 1 8: put 0 3 5: 0
+
+jobs: odd flags
+# Any value of armed except 0 counts as 1, on words that no lawful image has. For closed and ruined only 1 counts. A job
+# that is done ignores further words.
+repair 0: feed 0; done nothing-to-mend
+repair 0: feed 1; get 4
+repair 0: feed 5; get 4
+close 0: feed 1; done already-closed
+close 0: feed 5; put 1 1
+check 0: feed 5; done not-ruined
+check 0: get 0; feed 1; done ruined; feed 0; done ruined
+
+jobs: consistent asks first
+# `consistent` first reads whether the lock is ruined. If so, that is its reply. If not, the repair comes next.
+consistent 0: get 0; silent; feed 1; replied ruined
+consistent 0: feed 0; get 3; silent";

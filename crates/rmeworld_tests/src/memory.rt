@@ -44,15 +44,20 @@ impl Memory {
         true
     }
 
-    /// Runs a process's task that stops at this call. The result has the number of its calls. None: the task is refused.
-    fn run(&mut self, sender: u64, task: Task, stop_at: u64) -> Option<(Result<Reply, Stop>, u64)> {
+    /// Runs a process's task that stops at this call. True: it comes to this, after this number of its calls.
+    fn comes_to(
+        &mut self,
+        (sender, task): (u64, Task),
+        stop_at: u64,
+        wanted: Result<Reply, Stop>,
+        calls: u64,
+    ) -> bool {
         let Ok(job) = Job::new(self.layout, sender, task) else {
-            return None;
+            return false;
         };
         self.calls = 0;
         self.stop_at = stop_at;
-        let answer = run_task(self, job);
-        Some((answer, self.calls))
+        run_task(self, job) == wanted && self.calls == calls
     }
 
     /// Plays a line. True: it is so. `append 0 1 77: stops 8` is a task that stops at its call 8, without a number at the call
@@ -68,11 +73,11 @@ impl Memory {
         };
         if answer.word == "stops" {
             let at = first.unwrap_or(stop_at);
-            return self.run(asked.number(0), task, at) == Some((Err(Stop), at));
+            return self.comes_to((asked.number(0), task), at, Err(Stop), at);
         }
         match (reply_of(answer.rest), first) {
             (Some(reply), Some(calls)) => {
-                self.run(asked.number(0), task, answer.number(1)) == Some((Ok(reply), calls))
+                self.comes_to((asked.number(0), task), answer.number(1), Ok(reply), calls)
             }
             _ => false,
         }

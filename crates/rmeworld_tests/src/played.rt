@@ -78,16 +78,21 @@ fn is_written(alloc: Global, world: &World, text: &str) -> bool {
     }
 }
 
-/// Whether the world's image has this word.
-fn shows(world: &World, phrase: &Phrase<'_>) -> bool {
-    let Ok(image) = world.image() else {
-        return false;
-    };
+/// Whether the image has this word.
+fn has_word(image: &Image, phrase: &Phrase<'_>) -> bool {
     let at = phrase.number(0) as usize;
     match place("data|words", phrase.word) {
         Some(0) => image.cells.as_slice().get(at).copied() == Some(phrase.number(1)),
         Some(_) => are_words(image.lock.as_slice().get(at).copied(), phrase),
         None => false,
+    }
+}
+
+/// Whether the world's image has this word.
+fn shows(world: &World, phrase: &Phrase<'_>) -> bool {
+    match world.image() {
+        Ok(image) => has_word(&image, phrase),
+        Err(_) => false,
     }
 }
 

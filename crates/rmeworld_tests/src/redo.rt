@@ -2,7 +2,7 @@
 
 /// redo-table and repair-stopped-twice, with values of one word and of three. The append's call 7, or 9, arms the record; 13,
 /// or 17, calls store it, and a repair that mends has 10, or 14.
-pub const CUT_OFF: &str = "\
+pub const TABLES: &str = "\
 memory: appends and repairs cut off
 for 1 7: sizes 1 1 1 15: append 0 1 77: stops; repair 0: calls 1 nothing-to-mend; append 0 1 77: calls 13 stored | message 0 1 77 | 0 0 1 0 0 1 77 0 0 0 0 1 0 1 77
 for 8 13: sizes 1 1 1 15: append 0 1 77: stops; repair 0: calls 10 mended; append 0 1 77: calls 3 already | message 0 1 77 | 0 0 1 0 0 1 77 0 0 0 0 1 0 1 77

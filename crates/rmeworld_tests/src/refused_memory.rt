@@ -1,6 +1,7 @@
 //! Each request for memory of worlds and of images is refused in turn: all memory is taken but for a reserve, which is given
 //! back piece by piece until a call meets no refusal. What it then gives is compared whole with what ample memory gives.
 
+use super::images::is_written;
 use super::phrase::Phrase;
 use super::played::{are_right, is_same, world_of};
 use redomail::Deed;
@@ -40,15 +41,23 @@ fn have_same_counts(one: &World, other: &World) -> bool {
     true
 }
 
+/// Whether the world has this image.
+fn has_image(world: &World, image: &Image) -> bool {
+    match world.image() {
+        Ok(of_world) => is_same(&of_world, image),
+        Err(_) => false,
+    }
+}
+
 /// Whether two worlds have the same history and the same words, and the same counts of each process.
 fn are_alike(one: &World, other: &World) -> bool {
-    match (one.image(), other.image()) {
-        (Ok(image), Ok(of_other)) => {
+    match one.image() {
+        Ok(image) => {
             one.history() == other.history()
                 && have_same_counts(one, other)
-                && is_same(&image, &of_other)
+                && has_image(other, &image)
         }
-        _ => false,
+        Err(_) => false,
     }
 }
 
@@ -135,7 +144,7 @@ fn a_written_image_and_a_read_one(rt: HostRuntime) {
     let image = written(&rt, alloc);
     let text = at_last(&rt, alloc, &Writing { image: &image });
     let read = at_last(&rt, alloc, &Reading { text: &text });
-    assert!(rt; is_same(&read, &image) && write_image(alloc, &image) == Ok(text));
+    assert!(rt; is_same(&read, &image) && is_written(alloc, &image, &text));
 }
 
 /// A step of process 0, taken once there is memory for it, and how often it was refused. None: it was refused for another
@@ -202,20 +211,19 @@ fn is_taken(
     }
 }
 
+/// Whether the step with the deed of the row is taken so.
+fn comes_at_last(rt: &impl Abort, alloc: Global, row: &str) -> bool {
+    let mut script = row;
+    let wanted = Phrase::read(cut(&mut script, ": ")).deed();
+    let mut ample = played(rt, alloc, script);
+    let mut world = played(rt, alloc, script);
+    is_taken(scarce(rt, alloc), &mut world, &mut ample, wanted)
+}
+
 #[test]
 fn a_step_with_each_kind_of_deed(rt: HostRuntime) {
-    let alloc = rt.alloc();
     for row in DEEDS.split('\n') {
-        let mut script = row;
-        let deed = cut(&mut script, ": ");
-        let mut ample = played(&rt, alloc, script);
-        let mut world = played(&rt, alloc, script);
-        let scarce_memory = scarce(&rt, alloc);
-        let wanted = Phrase::read(deed).deed();
-        assert!(rt;
-            is_taken(scarce_memory, &mut world, &mut ample, wanted),
-            "{deed}"
-        );
+        assert!(rt; comes_at_last(&rt, rt.alloc(), row), "{row}");
     }
 }
 
@@ -251,6 +259,6 @@ fn steps_of_a_world(rt: HostRuntime) {
     let mut ample = played(&rt, alloc, "lock 0");
     let wanted = steps_of_a_lock(&mut ample);
     let mut world = played(&rt, alloc, "lock 0");
-    assert!(rt; are_taken(scarce(&rt, alloc), &mut world, &wanted));
-    assert!(rt; are_alike(&world, &ample));
+    let are_same = are_taken(scarce(&rt, alloc), &mut world, &wanted);
+    assert!(rt; are_same && are_alike(&world, &ample));
 }

@@ -4,7 +4,7 @@
 use crate::support::counted::never;
 use crate::support::rows::{call_of, first_wrong_of_two, is_named};
 use crate::support::running::two;
-use crate::support::tested::Tested;
+use crate::support::tested::{MemberCall, Tested};
 use crate::support::text::{number, place};
 use crash_plans::{At, CrashPlan, Never};
 use robust::Member;
@@ -79,6 +79,19 @@ impl CrashPlan for Beside {
     }
 }
 
+/// Whether the call has this answer, and the other was done at this asking, of this number of askings, if there are any.
+fn is_answered<R: Wait>(
+    rt: &R,
+    one: &mut Member,
+    plan: &mut Beside,
+    call: MemberCall,
+    (answer, counts): (&str, &str),
+) -> bool {
+    let mut rest = counts;
+    is_named(one.call(rt, call, plan), answer)
+        && (rest.is_empty() || number(&mut rest) == plan.done && number(&mut rest) == plan.askings)
+}
+
 /// A row of calls before, of the asking at which the plan falls, 0 for none, of what the other member does, and of a call and its
 /// answer. Then there may be the asking at which the other was done, and the number of askings.
 fn is_met<R: Abort + Wait>(rt: &R, alloc: Global, row: &str) -> bool {
@@ -103,11 +116,7 @@ fn is_met<R: Abort + Wait>(rt: &R, alloc: Global, row: &str) -> bool {
         askings: 0,
         done: 0,
     };
-    let reports = one.call(rt, call, &mut plan);
-    let counts = (plan.done, plan.askings);
-    wrong.is_none()
-        && is_named(reports, answer)
-        && (rest.is_empty() || (number(&mut rest), number(&mut rest)) == counts)
+    wrong.is_none() && is_answered(rt, &mut one, &mut plan, call, (answer, rest))
 }
 
 /// A lock's fifth step loads the other's number, to take the next one; the eighth whether its doorway is open, and the ninth its

@@ -101,29 +101,26 @@ fn cut_at_each<R: Abort + Wait>(rt: &R, alloc: Global, row: &str) {
     }
 }
 
+/// Calls of process 0, each with its steps, its stores, and the rows before it.
+const CALLS: &str = "\
+lock_within 0 | 11 | 4 choosing 1; 6 number 1; 7 choosing 0; 10 inside 1
+unlock | 2 | 0 number 1; 0 inside 1; 1 number 0; 2 inside 0 | 0 lock_within 0: clean
+put 2 7 | 1 | 0 number 1; 0 inside 1; 1 board-2 7 | 0 lock_within 0: clean
+get 2 | 1 | 0 number 1; 0 inside 1 | 0 lock_within 0: clean
+withdraw | 1 | 0 other-number 1; 0 other-inside 1; 0 number 2; 1 number 0 | 1 lock_within 0: clean; 0 lock_within 0: not-yet
+recover | 4 | 0 choosing 1; 0 number 1; 4 choosing 0 | 0 lock_within 0 @7: crashed
+recover | 3 | 0 number 1; 0 inside 1 | 0 lock_within 0 @12: crashed
+recover | 4 | 0 inside 1; 4 inside 0 | 0 lock_within 0: clean; 0 unlock @2: crashed
+consistent | 2 | 0 number 1; 0 inside 1 | 0 append_within 1 5 0 @12: crashed; 0 lock_within 0: owner-died
+consistent | 11 | 0 number 1; 0 inside 1; 0 rec-seq 1; 0 rec-value 5; 0 armed 1; 7 seq 1; 8 value 5; 9 last-0 1; 10 count 1; \
+11 armed 0 | 0 append_within 1 5 0 @19: crashed; 0 lock_within 0: owner-died
+append_within 1 5 0 | 26 | 4 choosing 1; 6 number 1; 7 choosing 0; 10 inside 1; 16 rec-seq 1; 17 rec-value 5; 18 armed 1; \
+20 seq 1; 21 value 5; 22 last-0 1; 23 count 1; 24 armed 0; 25 number 0; 26 inside 0
+close_within 0 | 15 | 4 choosing 1; 6 number 1; 7 choosing 0; 10 inside 1; 13 closed 1; 14 number 0; 15 inside 0";
+
 #[test]
 fn words_after_a_crash(rt: HostRuntime) {
-    for row in [
-        "lock_within 0 | 11 | 4 choosing 1; 6 number 1; 7 choosing 0; 10 inside 1",
-        "unlock | 2 | 0 number 1; 0 inside 1; 1 number 0; 2 inside 0 | 0 lock_within 0: clean",
-        "put 2 7 | 1 | 0 number 1; 0 inside 1; 1 board-2 7 | 0 lock_within 0: clean",
-        "get 2 | 1 | 0 number 1; 0 inside 1 | 0 lock_within 0: clean",
-        "withdraw | 1 | 0 other-number 1; 0 other-inside 1; 0 number 2; 1 number 0 \
-         | 1 lock_within 0: clean; 0 lock_within 0: not-yet",
-        "recover | 4 | 0 choosing 1; 0 number 1; 4 choosing 0 | 0 lock_within 0 @7: crashed",
-        "recover | 3 | 0 number 1; 0 inside 1 | 0 lock_within 0 @12: crashed",
-        "recover | 4 | 0 inside 1; 4 inside 0 | 0 lock_within 0: clean; 0 unlock @2: crashed",
-        "consistent | 2 | 0 number 1; 0 inside 1 \
-         | 0 append_within 1 5 0 @12: crashed; 0 lock_within 0: owner-died",
-        "consistent | 11 | 0 number 1; 0 inside 1; 0 rec-seq 1; 0 rec-value 5; 0 armed 1; \
-         7 seq 1; 8 value 5; 9 last-0 1; 10 count 1; 11 armed 0 \
-         | 0 append_within 1 5 0 @19: crashed; 0 lock_within 0: owner-died",
-        "append_within 1 5 0 | 26 | 4 choosing 1; 6 number 1; 7 choosing 0; 10 inside 1; \
-         16 rec-seq 1; 17 rec-value 5; 18 armed 1; 20 seq 1; 21 value 5; 22 last-0 1; 23 count 1; \
-         24 armed 0; 25 number 0; 26 inside 0",
-        "close_within 0 | 15 | 4 choosing 1; 6 number 1; 7 choosing 0; 10 inside 1; 13 closed 1; \
-         14 number 0; 15 inside 0",
-    ] {
+    for row in CALLS.split('\n') {
         cut_at_each(&rt, rt.alloc(), row);
     }
 }

@@ -16,7 +16,6 @@ use std::marker::Brand;
 use std::process::Abort;
 use std::sync::Wait;
 use std::sync::ledger::{Blank, Ledger};
-use std::test::Fail;
 use std::thread;
 use std::thread::Threads;
 
@@ -51,9 +50,11 @@ fn meets_an_append<M: Tested + Send, R: Abort + Threads + Wait + Sync>(
     alloc: Global,
     members: (M, M),
     closes: bool,
-) -> Result<(), Fail> {
+) {
     let (one, other) = members;
-    let (first, second, zero, late) = meeting(alloc, 20)?;
+    let Ok((first, second, zero, late)) = meeting(alloc, 20) else {
+        panic!(rt; "no gates")
+    };
     let (appended, entered) = thread::join(
         rt,
         move || -> bool
@@ -65,7 +66,6 @@ fn meets_an_append<M: Tested + Send, R: Abort + Threads + Wait + Sync>(
     );
     assert!(rt; appended && entered);
     assert!(rt; !zero.has_given_up() && !late.has_given_up());
-    Ok(())
 }
 
 fn meets_on_plain<L: Ledger + Send + Sync, R: Abort + Threads + Wait + Sync>(
@@ -73,26 +73,21 @@ fn meets_on_plain<L: Ledger + Send + Sync, R: Abort + Threads + Wait + Sync>(
     alloc: Global,
     closes: bool,
     blank: Blank,
-) -> Result<(), Fail>
+)
     requires name { blank.name ≡ L.name }
     requires parts { blank.parts ≡ L.parts }
     requires both { blank.parts ≡ 2 }
 {
-    meets_an_append(rt, alloc, plain::two::<L>(rt, alloc, 10, 2, blank), closes)
+    meets_an_append(rt, alloc, plain::two::<L>(rt, alloc, 10, 2, blank), closes);
 }
 
 #[test]
-fn a_lock_and_a_close_at_once_with_an_append(rt: HostRuntime) -> Result<(), Fail> {
+fn a_lock_and_a_close_at_once_with_an_append(rt: HostRuntime) {
     for closes in [false, true] {
-        meets_an_append(
-            &rt,
-            rt.alloc(),
-            running::two(&rt, rt.alloc(), 10, 2),
-            closes,
-        )?;
-        meets_on_plain::<Brand, _>(&rt, rt.alloc(), closes, Blank::new(2))?;
+        let members = running::two(&rt, rt.alloc(), 10, 2);
+        meets_an_append(&rt, rt.alloc(), members, closes);
+        meets_on_plain::<Brand, _>(&rt, rt.alloc(), closes, Blank::new(2));
     }
-    Ok(())
 }
 
 /// Both members append, and both messages are stored. It answers the first member.

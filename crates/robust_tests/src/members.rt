@@ -9,7 +9,6 @@ use crate::support::tested::Tested;
 use crate::support::text::number;
 use crash_plans::CrashPlan;
 use redomail::Reply;
-use rmecore::Refusal;
 use std::alloc::Global;
 use std::marker::Brand;
 use std::process::Abort;
@@ -177,22 +176,30 @@ fn crashes_at_askings(rt: HostRuntime) {
     assert!(&rt; wrong.is_none(), "{wrong:?}");
 }
 
-/// The refusal of an arena with this number of processes, limit, capacity and width.
-fn refusal<R: Abort>(rt: &R, alloc: Global, sizes: (u64, u64, u64, u64)) -> Option<Refusal> {
-    let (procs, limit, cap, width) = sizes;
-    robust::Arena::new(rt, alloc, procs, limit, cap, width).err()
+/// Sizes of an arena, its number of processes, limit, capacity and width, and the number of the refusal, or `made`.
+const SIZES: &str = "\
+0 0 0 0: 1
+65 1 1 1: 1
+64 0 0 1: 2
+1 1 65537 9: 8
+1 1 1 9: 15
+64 4611686018427387904 2 8: made";
+
+/// Whether an arena of these sizes is refused, or made, as the row says.
+fn is_refused<R: Abort>(rt: &R, alloc: Global, row: &str) -> bool {
+    let mut wanted = row;
+    let mut sizes = cut(&mut wanted, ": ");
+    let (procs, limit) = (number(&mut sizes), number(&mut sizes));
+    let (cap, width) = (number(&mut sizes), number(&mut sizes));
+    match robust::Arena::new(rt, alloc, procs, limit, cap, width).err() {
+        Some(refusal) => refusal.number() == wanted.parse::<u64>().ok(),
+        None => wanted == "made",
+    }
 }
 
 #[test]
 fn sizes_outside_the_limits(rt: HostRuntime) {
-    for (sizes, wanted) in [
-        ((0, 0, 0, 0), Some(Refusal::BadProcs)),
-        ((65, 1, 1, 1), Some(Refusal::BadProcs)),
-        ((64, 0, 0, 1), Some(Refusal::BadLimit)),
-        ((1, 1, 65537, 9), Some(Refusal::BadCap)),
-        ((1, 1, 1, 9), Some(Refusal::BadWidth)),
-        ((64, 1 << 62, 2, 8), None),
-    ] {
-        assert!(&rt; refusal(&rt, rt.alloc(), sizes) == wanted, "{sizes:?}");
+    for row in SIZES.split('\n') {
+        assert!(&rt; is_refused(&rt, rt.alloc(), row), "{row}");
     }
 }

@@ -13,8 +13,15 @@ use rmeworld::Image;
 use robust::{Arena, GatherFault, Member, gather};
 use std::alloc::Global;
 use std::process::Abort;
-use std::test::Fail;
 use test_support::memory_limit::{PIECES, ScarceMemory};
+
+/// All memory, taken.
+fn scarce<R: Abort>(rt: &R, alloc: Global) -> ScarceMemory {
+    let Ok(scarce_memory) = ScarceMemory::new(alloc) else {
+        panic!(rt; "no reserve")
+    };
+    scarce_memory
+}
 
 /// The number of members of a new arena.
 fn members_made<R: Abort>(rt: &R, alloc: Global) -> Result<usize, Refusal> {
@@ -38,11 +45,10 @@ fn arena_at_last<R: Abort>(rt: &R, alloc: Global, scarce_memory: &mut ScarceMemo
 }
 
 #[test]
-fn a_new_arena(rt: HostRuntime) -> Result<(), Fail> {
-    let mut scarce_memory = ScarceMemory::new(rt.alloc())?;
+fn a_new_arena(rt: HostRuntime) {
+    let mut scarce_memory = scarce(&rt, rt.alloc());
     let refused = arena_at_last(&rt, rt.alloc(), &mut scarce_memory);
     assert!(rt; 0 < refused && refused < PIECES as u64);
-    Ok(())
 }
 
 /// Gathers again after each refusal, and counts the refusals.
@@ -70,16 +76,19 @@ fn gather_at_last(
 }
 
 #[test]
-fn a_gathering(rt: HostRuntime) -> Result<(), Fail> {
+fn a_gathering(rt: HostRuntime) {
     let alloc = rt.alloc();
     let (one, other) = two(&rt, alloc, 10, 2);
-    let members = vec![in alloc; one, other]?;
-    let mut scarce_memory = ScarceMemory::new(alloc)?;
+    let Ok(members) = vec![in alloc; one, other] else {
+        panic!(rt; "no room")
+    };
+    let mut scarce_memory = scarce(&rt, alloc);
     let (image, refused) = gather_at_last(&rt, alloc, members, &mut scarce_memory);
-    let image = image.expect(&rt, "an image at last");
+    let Some(image) = image else {
+        panic!(rt; "never gathered")
+    };
     assert!(rt; begins_with(&image, "0 0 0 0 0 0"));
     assert!(rt; 0 < refused && refused < PIECES as u64);
-    Ok(())
 }
 
 /// Reads again after each refusal, and counts the refusals.
@@ -102,11 +111,10 @@ fn reading_at_last<R: Abort>(
 }
 
 #[test]
-fn a_reading(rt: HostRuntime) -> Result<(), Fail> {
+fn a_reading(rt: HostRuntime) {
     let (mut one, mut other) = two(&rt, rt.alloc(), 10, 2);
     assert!(rt; one.append_within(1, body(5), &mut never(), 0) == Ok(Reply::Stored));
-    let mut scarce_memory = ScarceMemory::new(rt.alloc())?;
+    let mut scarce_memory = scarce(&rt, rt.alloc());
     let refused = reading_at_last(&rt, rt.alloc(), &mut other, &mut scarce_memory);
     assert!(rt; 0 < refused && refused < PIECES as u64);
-    Ok(())
 }

@@ -10,6 +10,7 @@ use robust::LockFault;
 use std::alloc::Global;
 use std::marker::Brand;
 use std::process::Abort;
+use std::sync::Wait;
 use std::sync::ledger::Blank;
 
 /// What the mailbox shows once both members have appended.
@@ -21,33 +22,29 @@ const STEPS: [u64; 27] = [
     11, 17, 16,
 ];
 
-#[test]
-fn crash_pairs(rt: HostRuntime) {
+/// Plays the rows on both locks, where the plan falls at these two askings. It answers the first that comes to something else.
+fn wrong_at<R: Abort + Wait>(rt: &R, alloc: Global, k: u64, m: u64) -> Option<&'static str> {
     let played = Played {
         cap: 4,
         rows: "0 append_within 1 5 0: crashed; 0 append_within 1 5 0: crashed; \
                0 append_within 1 5 0: stored-or-already; 1 append_within 1 9 0 @never: stored",
         left: BOTH_STAND,
     };
+    let mut plan = Counted::new(Both::new(k, m));
+    let on_running = wrong_on_running(rt, alloc, &mut plan, played);
+    let mut plan = Counted::new(Both::new(k, m));
+    let on_plain = wrong_on_plain::<Brand, _, _>(rt, alloc, &mut plan, played, Blank::new(2));
+    on_running.or(on_plain)
+}
+
+#[test]
+fn crash_pairs(rt: HostRuntime) {
     let mut k = 0u64;
     for steps in STEPS {
         k = k.saturating_add(1);
         for m in 1..steps.saturating_add(2) {
-            let mut plan = Counted::new(Both::new(k, m));
-            let wrong = wrong_on_running(&rt, rt.alloc(), &mut plan, played);
+            let wrong = wrong_at(&rt, rt.alloc(), k, m);
             assert!(&rt; wrong.is_none(), "{wrong:?} at {k} and {m}");
-            let mut plan = Counted::new(Both::new(k, m));
-            let wrong = wrong_on_plain::<Brand, _, _>(
-                &rt,
-                rt.alloc(),
-                &mut plan,
-                played,
-                Blank::new(2),
-            );
-            assert!(&rt;
-                wrong.is_none(),
-                "{wrong:?} at {k} and {m} of the plain reference"
-            );
         }
     }
 }

@@ -5,7 +5,7 @@ ghost use Rattle.redomail.specs.declared.layout.Layout.{Layout};
 ghost use Rattle.one_lock.specs.Shown.{place_of};
 
 use crate::support::messages::body;
-use crate::support::tested::{MemberCall, Tested};
+use crate::support::tested::{MemberCall, Tested, done, entered, replied};
 use crash_plans::CrashPlan;
 use one_lock::{Arena, Member, gather};
 use redomail::Reply;
@@ -14,15 +14,7 @@ use std::alloc::Global;
 use std::process::Abort;
 use std::sync::Wait;
 use std::sync::ledger::{Blank, Ledger};
-use table_runs::{Entry, LockFault};
-
-/// The answer of a lock that entered.
-pub fn entered(entry: Entry) -> Answer {
-    match entry {
-        Entry::Clean => Answer::Clean,
-        Entry::OwnerDied => Answer::OwnerDied,
-    }
-}
+use table_runs::LockFault;
 
 impl<L: Ledger> Tested for Member<L> {
     ghost Place = { ℕ × Layout };
@@ -37,32 +29,27 @@ impl<L: Ledger> Tested for Member<L> {
         call: MemberCall,
         plan: &mut C,
     ) -> Result<Answer, LockFault> {
-        let answer = match call {
-            MemberCall::Lock(None) => entered(self.lock(rt, plan)?),
-            MemberCall::Lock(Some(turns)) => entered(self.lock_within(rt, plan, turns)?),
-            MemberCall::CloseWithin(turns) => Answer::Mail(self.close_within(rt, plan, turns)?),
+        match call {
+            MemberCall::Lock(None) => entered(self.lock(rt, plan)),
+            MemberCall::Lock(Some(turns)) => entered(self.lock_within(rt, plan, turns)),
+            MemberCall::CloseWithin(turns) => replied(self.close_within(rt, plan, turns)),
             MemberCall::Append { seq, word, turns } => {
                 let value = body(word);
-                Answer::Mail(match turns {
-                    None => self.append(rt, seq, value, plan)?,
-                    Some(turns) => self.append_within(rt, seq, value, plan, turns)?,
-                })
+                match turns {
+                    None => replied(self.append(rt, seq, value, plan)),
+                    Some(turns) => replied(self.append_within(rt, seq, value, plan, turns)),
+                }
             }
-            MemberCall::Consistent => Answer::Mail(Reply::Mended(self.consistent(rt, plan)?)),
-            MemberCall::Recover => Answer::Found(self.recover(rt, plan)?),
-            MemberCall::Get(index) => Answer::Mail(Reply::Word(self.get(rt, index, plan)?)),
+            MemberCall::Consistent => Ok(Answer::Mail(Reply::Mended(self.consistent(rt, plan)?))),
+            MemberCall::Recover => Ok(Answer::Found(self.recover(rt, plan)?)),
+            MemberCall::Get(index) => Ok(Answer::Mail(Reply::Word(self.get(rt, index, plan)?))),
             MemberCall::Put(index, value) => {
-                self.put(rt, index, value, plan)?;
-                Answer::Mail(Reply::Done)
+                done(self.put(rt, index, value, plan), Answer::Mail(Reply::Done))
             }
-            MemberCall::Unlock => {
-                self.unlock(rt, plan)?;
-                Answer::Unlocked
-            }
+            MemberCall::Unlock => done(self.unlock(rt, plan), Answer::Unlocked),
             // The reference has no withdraw: no row on it may have one, since none expects this.
-            MemberCall::Withdraw => Answer::NumbersSpent,
-        };
-        Ok(answer)
+            MemberCall::Withdraw => Ok(Answer::NumbersSpent),
+        }
     }
 
     fn close_at_last<C: CrashPlan, R: Wait>(

@@ -82,7 +82,7 @@ pub fn is_named(reports: Result<Answer, LockFault>, name: &str) -> bool {
         Ok(answer) => {
             let reports = answer_name(answer);
             reports == name
-                || name == "stored-or-already" && (reports == "stored" || reports == "already")
+                || name == "stored-or-already" && place("stored|already", reports).is_some()
         }
         Err(fault) => fault_name(fault) == name,
     }
@@ -174,10 +174,11 @@ pub fn first_wrong_of_two<'r, M: Tested, C: CrashPlan, R: Wait>(
             break;
         }
         let mut row = whole;
-        let is_right = match place("0|1", cut(&mut row, " ")) {
-            Some(0) => is_right(rt, one, plan, row),
-            Some(_) => is_right(rt, other, plan, row),
-            None => false,
+        let member = cut(&mut row, " ");
+        let is_right = if member == "0" {
+            is_right(rt, one, plan, row)
+        } else {
+            member == "1" && is_right(rt, other, plan, row)
         };
         if !is_right {
             return Some(whole);

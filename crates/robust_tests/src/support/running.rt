@@ -6,8 +6,7 @@ ghost use Rattle.table_runs.specs.declared.setup.Setup.{Setup};
 ghost use Rattle.robust.specs.MemberLaws.{seat_of};
 
 use crate::support::messages::body;
-use crate::support::plain::entered;
-use crate::support::tested::{MemberCall, Tested};
+use crate::support::tested::{MemberCall, Tested, done, entered, replied};
 use crash_plans::CrashPlan;
 use redomail::Reply;
 use rmeworld::{Answer, Image};
@@ -30,34 +29,26 @@ impl Tested for Member {
         call: MemberCall,
         plan: &mut C,
     ) -> Result<Answer, LockFault> {
-        let answer = match call {
-            MemberCall::Lock(None) => entered(self.lock(rt, plan)?),
-            MemberCall::Lock(Some(turns)) => entered(self.lock_within(plan, turns)?),
-            MemberCall::CloseWithin(turns) => Answer::Mail(self.close_within(plan, turns)?),
+        match call {
+            MemberCall::Lock(None) => entered(self.lock(rt, plan)),
+            MemberCall::Lock(Some(turns)) => entered(self.lock_within(plan, turns)),
+            MemberCall::CloseWithin(turns) => replied(self.close_within(plan, turns)),
             MemberCall::Append { seq, word, turns } => {
                 let value = body(word);
-                Answer::Mail(match turns {
-                    None => self.append(rt, seq, value, plan)?,
-                    Some(turns) => self.append_within(seq, value, plan, turns)?,
-                })
+                match turns {
+                    None => replied(self.append(rt, seq, value, plan)),
+                    Some(turns) => replied(self.append_within(seq, value, plan, turns)),
+                }
             }
-            MemberCall::Consistent => Answer::Mail(Reply::Mended(self.consistent(plan)?)),
-            MemberCall::Recover => Answer::Found(self.recover(plan)?),
-            MemberCall::Get(index) => Answer::Mail(Reply::Word(self.get(index, plan)?)),
+            MemberCall::Consistent => Ok(Answer::Mail(Reply::Mended(self.consistent(plan)?))),
+            MemberCall::Recover => Ok(Answer::Found(self.recover(plan)?)),
+            MemberCall::Get(index) => Ok(Answer::Mail(Reply::Word(self.get(index, plan)?))),
             MemberCall::Put(index, value) => {
-                self.put(index, value, plan)?;
-                Answer::Mail(Reply::Done)
+                done(self.put(index, value, plan), Answer::Mail(Reply::Done))
             }
-            MemberCall::Unlock => {
-                self.unlock(plan)?;
-                Answer::Unlocked
-            }
-            MemberCall::Withdraw => {
-                self.withdraw(plan)?;
-                Answer::Withdrawn
-            }
-        };
-        Ok(answer)
+            MemberCall::Unlock => done(self.unlock(plan), Answer::Unlocked),
+            MemberCall::Withdraw => done(self.withdraw(plan), Answer::Withdrawn),
+        }
     }
 
     fn close_at_last<C: CrashPlan, R: Wait>(

@@ -7,7 +7,7 @@ use redomail::Reply;
 use rmeworld::{Answer, Image};
 use std::alloc::Global;
 use std::sync::Wait;
-use table_runs::LockFault;
+use table_runs::{Entry, LockFault};
 
 /// A call of a member. A lock, or the lock of an append, that has no turns waits as long as it has to. The value of an append
 /// has one word.
@@ -59,4 +59,29 @@ pub trait Tested: Drop {
     /// The image of the words of an arena of two. None: it was not gathered.
     fn gathered<R: Wait>(rt: &R, alloc: Global, one: Self, other: Self) -> Option<Image>
         requires { are_all (place one) (place other) };
+}
+
+/// What a call answers that enters.
+pub fn entered(entry: Result<Entry, LockFault>) -> Result<Answer, LockFault> {
+    match entry {
+        Ok(Entry::Clean) => Ok(Answer::Clean),
+        Ok(Entry::OwnerDied) => Ok(Answer::OwnerDied),
+        Err(fault) => Err(fault),
+    }
+}
+
+/// What a call of the mailbox answers.
+pub fn replied(reply: Result<Reply, LockFault>) -> Result<Answer, LockFault> {
+    match reply {
+        Ok(reply) => Ok(Answer::Mail(reply)),
+        Err(fault) => Err(fault),
+    }
+}
+
+/// What a call answers that has this one answer.
+pub fn done(ended: Result<(), LockFault>, answer: Answer) -> Result<Answer, LockFault> {
+    match ended {
+        Ok(()) => Ok(answer),
+        Err(fault) => Err(fault),
+    }
 }

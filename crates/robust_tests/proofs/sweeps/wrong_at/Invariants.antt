@@ -1,4 +1,4 @@
-use Rattle.robust_tests.proofs.sweeps.crash_pairs.Given as goal
+use Rattle.robust_tests.proofs.sweeps.wrong_at.Given as goal
 
 -- the ledger of the blank that was just made
 abbrev pub ghosts-wrong_on_plain : goal.ghosts-wrong_on_plain

@@ -12,24 +12,6 @@ use Rattle.commands.specs.Programs.{SessionEndsIn}
 use Rattle.command_parts.specs.declared.ending.Ending.{Ending}
 use Rattle.command_parts.specs.declared.fault.CommandFault.{CommandFault}
 
--- a session reads standard input
-pub session_reads : (command : Command) → is_session command ≡ true → input_of command ≡ None
-session_reads (Step file) e = refl
-session_reads (StepAlgorithm args) e = refl
-session_reads _ e = cc
-
--- it saves no image
-pub session_saves : (command : Command) → is_session command ≡ true → save_of command ≡ None
-session_saves (Step file) e = refl
-session_saves (StepAlgorithm args) e = refl
-session_saves _ e = cc
-
--- a session reads no file by name
-pub reads_no_file : (command : Command) (file : Option (String Global)) (name : String Global) (A : Type 0) → is_session command ≡ true → file ≡ input_of command → file ≡ Some name → A
-reads_no_file (Step start) file name A e is some = cc
-reads_no_file (StepAlgorithm args) file name A e is some = cc
-reads_no_file _ file name A e is some = cc
-
 -- a session that begins where nothing was written
 pub in_folder : (command : Command) (image start : Option (List ℕ)) (before first now : Used) (old new : Reading) (blank written : Tape) (end : Result Ending CommandFault)
     → is_some image ≡ is_some (image_of_command command) → is_some start ≡ is_some (start_of command) → first.saved ≡ before.saved → first.texts ≡ before.texts

@@ -2,7 +2,7 @@
 
 pub const JAYANTI_JAYANTI_JOSHI: &[u8] =
     br"# Jayanti, Jayanti and Joshi 2019: a queue entered by swap. One that lost in a crash what its swap answered mends the queue.
-# It looks at all nodes, under a lock for the menders, and hangs its piece of the queue behind the tail, the piece in front, or
+# It looks at all nodes, under a lock for the menders, and hangs its piece of the queue after the tail, the piece in front, or
 # nothing. From the paper, from memory: the order of all accesses, and the choice of where to hang. Our own: `limit` nodes for
 # each process in place of new ones, after which lock answers nodes-spent; bits for its signals, as for cache coherence; and
 # the menders' lock is recoverable-test-and-set.lock.

@@ -8,7 +8,7 @@ use Rattle.rmecore.specs.declared.phase.Phase.TheVariants.{Ready}
 use Rattle.redomail.specs.Mailbox.{mailbox_after as mail_done}
 use Rattle.redomail.specs.declared.deed.Deed.TheVariants as deed
 
-least-agree : (n : ℕ) (t u : ℕ → Bool) → ((k : ℕ) → k < n → t k ≡ u k) → least_below n t ≡ least_below n u
+pub least-agree : (n : ℕ) (t u : ℕ → Bool) → ((k : ℕ) → k < n → t k ≡ u k) → least_below n t ≡ least_below n u
 least-agree zero t u same = refl
 least-agree (suc n) t u same =
     ap (λ b. if b then 0 else suc (least_below n (λ k. t (suc k)))) (same 0 (omega arith))
@@ -59,7 +59,7 @@ passed n a b p h x = record {
   ahead = λ q k l m. put-agree (a.ahead q) (b.ahead q) p k false false refl (h.ahead q k l m);
 }
 
-done-agree : (n : ℕ) (a b : Abstract) (d : Outer) → lock_doer d < n → Agree n a b → Agree n (abstract_after a d) (abstract_after b d)
+pub done-agree : (n : ℕ) (a b : Abstract) (d : Outer) → lock_doer d < n → Agree n a b → Agree n (abstract_after a d) (abstract_after b d)
 done-agree n a b (Begin p) l h = record {
   phases = λ q m. put-agree a.phase b.phase p q Door Door refl (h.phases q m);
   ahead = λ q k m o. put-row-agree a.ahead b.ahead p q k (λ r. is_ready (a.phase r)) (λ r. is_ready (b.phase r)) (ap is_ready (h.phases k o)) (h.ahead q k m o);

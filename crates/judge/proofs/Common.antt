@@ -16,10 +16,10 @@ pub use Rattle.rmecore.proofs.Invariant.{put_same}
 pub use Rattle.redomail.specs.declared.deed.Deed.{Deed}
 pub use Rattle.redomail.specs.declared.message.Message.{Message}
 pub use Rattle.redomail.specs.Mailbox.{Mailbox, doer, row, is_by, is_pending, message, nothing_shown}
-pub use Rattle.judge.specs.Halves.{MailAllows, Agree, outers, all_after}
+pub use Rattle.judge.specs.Halves.{LockAllows, MailAllows, Agree, outers, all_after}
 pub use Rattle.judge.specs.Kept.{Kept, Lists, HasBits, row_word, IsSound, HasRows}
 pub use Rattle.judge.specs.Legal.{and_then, judged_all, Leads}
 pub use Rattle.judge.specs.Plain.{NoneBefore, IsEntryOf, IsExitOf, IsEntry, HasDeedAt, IsDeedAt, NoneBetween, NoTwoInside, DeadReenters, is_show, is_show_of, StandsBefore, MailInOrder, GoneBefore, IsEndOf, IsGoneOf, GoneBetween, FirstComeFirstServed}
 pub use Rattle.judge.specs.Stands.{Keeps}
 pub use Rattle.judge.specs.Starts.{IsNextMessage, AreNumbered, is_named, IsStart, LockHolds, phase_in, state_of}
-pub use Rattle.judge.specs.Table.{lock_after, State, lock_needs, mail_needs, needs, after, empty_state, unless, state_after_deed}
+pub use Rattle.judge.specs.Table.{count_below, count_inside, count_dead_in, entry_needs, exclusion_row, empty_state_of, lock_after, State, lock_needs, mail_needs, needs, after, empty_state, unless, state_after_deed}

@@ -1,6 +1,6 @@
 -- The lock's part and the mailbox's part of a list of deeds.
 use Rattle.std.proofs.Common.{◌≡◌, ℕ, Bool, true, List, [], ◌∷◌, ◌++◌, map, Some, None, is_none, Ok, refl, sym, ◌∙◌, ap, subst}
-use Rattle.judge.proofs.Common.{cond-true, Fault, Outer, Leave, Abstract, Legal, abstract_after, is_inside, lock_doer, nobody, AllHold, first_fault, Deed, Mailbox, row, nothing_shown, MailAllows, outers}
+use Rattle.judge.proofs.Common.{cond-true, Fault, Outer, Leave, Abstract, Legal, abstract_after, is_inside, lock_doer, nobody, AllHold, first_fault, Deed, Mailbox, row, nothing_shown, LockAllows, MailAllows, outers}
 use Rattle.judge.proofs.Common.{all_after, and_then, judged_all, Leads, State, lock_needs, mail_needs, needs, after, empty_state, unless, state_after_deed}
 use Rattle.redomail.specs.declared.deed.Deed.TheVariants as deed
 use Rattle.judge.proofs.Steps.{Allowed, Allowed-from_leads}
@@ -30,8 +30,17 @@ Leads-allowed s [] ok = refl
 Leads-allowed s (d ∷ ds) ok =
     ap (λ r. and_then r (λ t. judged_all t ds)) (judged-allowed s d ok.0) ∙ Leads-allowed (after s d) ds ok.1
 
+-- where one process may be inside, the lock is the abstract lock
+pub LockAllows-legal : (n : ℕ) (a : Abstract) (ds : List Outer) → Legal n a ds → LockAllows 1 n a ds
+LockAllows-legal n a [] legal = tt
+LockAllows-legal n a (d ∷ ds) legal = (legal.0, LockAllows-legal n (abstract_after a d) ds legal.1)
+
+pub Legal-allowed : (n : ℕ) (a : Abstract) (ds : List Outer) → LockAllows 1 n a ds → Legal n a ds
+Legal-allowed n a [] ok = tt
+Legal-allowed n a (d ∷ ds) ok = (ok.0, Legal-allowed n (abstract_after a d) ds ok.1)
+
 -- both parts together
-pub Allowed-halves : (s : State) (ds : List Deed) → Legal s.procs s.lock (outers ds) → MailAllows s.procs s.cap s.lock s.mail ds → Allowed s ds
+pub Allowed-halves : (s : State) (ds : List Deed) → LockAllows s.most_inside s.procs s.lock (outers ds) → MailAllows s.procs s.cap s.lock s.mail ds → Allowed s ds
 Allowed-halves s [] lock mail = tt
 Allowed-halves s (deed.Outer d ∷ ds) lock mail = ((mail.0, AllHold-append _ _ lock.0.1 mail.1), Allowed-halves (after s (deed.Outer d)) ds lock.1 mail.2)
 Allowed-halves s (deed.Commit p seq v ∷ ds) lock mail = ((mail.0, mail.1), Allowed-halves (after s (deed.Commit p seq v)) ds lock mail.2)
@@ -39,7 +48,7 @@ Allowed-halves s (deed.Show p at seq v ∷ ds) lock mail = ((mail.0, mail.1), Al
 Allowed-halves s (deed.Close p ∷ ds) lock mail = ((mail.0, mail.1), Allowed-halves (after s (deed.Close p)) ds lock mail.2)
 Allowed-halves s (deed.Ruin p ∷ ds) lock mail = ((mail.0, mail.1), Allowed-halves (after s (deed.Ruin p)) ds lock mail.2)
 
-pub lock_half : (s : State) (ds : List Deed) → Allowed s ds → Legal s.procs s.lock (outers ds)
+pub lock_half : (s : State) (ds : List Deed) → Allowed s ds → LockAllows s.most_inside s.procs s.lock (outers ds)
 lock_half s [] ok = tt
 lock_half s (deed.Outer d ∷ ds) ok = ((ok.0.0, AllHold-left (lock_needs s (deed.Outer d)) _ ok.0.1), lock_half (after s (deed.Outer d)) ds ok.1)
 lock_half s (deed.Commit p seq v ∷ ds) ok = lock_half (after s (deed.Commit p seq v)) ds ok.1
@@ -68,7 +77,7 @@ outers-map (d ∷ ds) = ap (λ es. d ∷ es) (outers-map ds)
 -- deeds of the lock alone, beside an empty mailbox
 pub Allowed-outers : (n cap : ℕ) (ds : List Outer) → Legal n nobody ds → Allowed (empty_state n cap) (map deed.Outer ds)
 Allowed-outers n cap ds legal =
-    Allowed-halves (empty_state n cap) (map deed.Outer ds) (subst (Legal n nobody) (sym (outers-map ds)) legal) (MailAllows-outers n cap nobody nothing_shown ds refl legal)
+    Allowed-halves (empty_state n cap) (map deed.Outer ds) (LockAllows-legal n nobody (outers (map deed.Outer ds)) (subst (Legal n nobody) (sym (outers-map ds)) legal)) (MailAllows-outers n cap nobody nothing_shown ds refl legal)
 
 -- the state after legal deeds
 pub state_led : (s t : State) (ds : List Deed) → Leads s ds t → t ≡ all_after s ds

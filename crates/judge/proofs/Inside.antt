@@ -4,7 +4,7 @@ use Rattle.judge.proofs.Common.{Begin, Ready, Enter, Crash, Reenter, Leave, Quit
 use Rattle.judge.proofs.Common.{IsEntry, HasDeedAt, IsDeedAt, NoneBetween, NoTwoInside, DeadReenters, State, needs, after, empty_state}
 use Rattle.redomail.specs.declared.deed.Deed.TheVariants as deed
 use Rattle.rmecore.specs.declared.phase.Phase.TheVariants as phase
-use Rattle.judge.proofs.Steps.{Allowed, put_cases, none_below-at, procs-after, doer_below, inside_stays, dead_stays}
+use Rattle.judge.proofs.Steps.{Allowed, with_one_inside, put_cases, none_below-at, procs-after, doer_below, inside_stays, dead_stays}
 
 -- inside, alive or crashed
 abbrev pub Holds : Phase → Type 0
@@ -41,7 +41,7 @@ enters_alone s r alive dead p lp =
       | inr e ↦ absurd (none_below-at s.procs (λ q. is_dead_in (s.lock.phase q)) p dead lp e)
     ])
 
-pub Sole-after : (s : State) (d : Deed) → AllHold (needs s d) → Sole s → Sole (after s d)
+pub Sole-after : (s : State) (d : Deed) → AllHold (needs (with_one_inside s) d) → Sole s → Sole (after s d)
 Sole-after s (deed.Outer (Begin r)) h sole =
     kept s _ (held s.lock.phase r phase.Door (λ k. absurd (none_holds phase.Door refl refl k))) sole
 Sole-after s (deed.Outer (Ready r)) h sole =
@@ -60,32 +60,32 @@ pub Sole-empty : (procs cap : ℕ) → Sole (empty_state procs cap)
 Sole-empty procs cap p q lp lq hp hq = absurd (none_holds phase.Out refl refl hp)
 
 -- after an entry its process is inside
-pub entered : (s : State) (d : Deed) (p : ℕ) → AllHold (needs s d) → IsEntryOf p d → ((after s d).lock.phase p ≡ phase.Inside) × (p < (after s d).procs)
+pub entered : (s : State) (d : Deed) (p : ℕ) → AllHold (needs (with_one_inside s) d) → IsEntryOf p d → ((after s d).lock.phase p ≡ phase.Inside) × (p < (after s d).procs)
 entered s d p h (inl e) =
-    let P : Deed → Type 0 = λ k. AllHold (needs s k) → ((after s k).lock.phase p ≡ phase.Inside) × (p < (after s k).procs) in
-    subst P (sym e) (λ k. (put_same s.lock.phase p phase.Inside, doer_below s (deed.Outer (Enter p)) k)) h
+    let P : Deed → Type 0 = λ k. AllHold (needs (with_one_inside s) k) → ((after s k).lock.phase p ≡ phase.Inside) × (p < (after s k).procs) in
+    subst P (sym e) (λ k. (put_same s.lock.phase p phase.Inside, doer_below (with_one_inside s) (deed.Outer (Enter p)) k)) h
 entered s d p h (inr e) =
-    let P : Deed → Type 0 = λ k. AllHold (needs s k) → ((after s k).lock.phase p ≡ phase.Inside) × (p < (after s k).procs) in
-    subst P (sym e) (λ k. (put_same s.lock.phase p phase.Inside, doer_below s (deed.Outer (Reenter p)) k)) h
+    let P : Deed → Type 0 = λ k. AllHold (needs (with_one_inside s) k) → ((after s k).lock.phase p ≡ phase.Inside) × (p < (after s k).procs) in
+    subst P (sym e) (λ k. (put_same s.lock.phase p phase.Inside, doer_below (with_one_inside s) (deed.Outer (Reenter p)) k)) h
 
 -- Enter needs that no process holds the lock
-no_enter : (s : State) (p q : ℕ) → AllHold (needs s (deed.Outer (Enter q))) → p < s.procs → Holds (s.lock.phase p) → ⊥
+no_enter : (s : State) (p q : ℕ) → AllHold (needs (with_one_inside s) (deed.Outer (Enter q))) → p < s.procs → Holds (s.lock.phase p) → ⊥
 no_enter s p q h lp (inl e) = none_below-at s.procs (λ r. is_inside (s.lock.phase r)) p h.1.1.0 lp e
 no_enter s p q h lp (inr e) = none_below-at s.procs (λ r. is_dead_in (s.lock.phase r)) p h.1.1.1.0 lp e
 
 -- while p holds the lock, an entry is the re-entry of p, which is dead in
-reenters : (s : State) (d : Deed) (p : ℕ) → Sole s → AllHold (needs s d) → p < s.procs → Holds (s.lock.phase p) → IsEntry d → (d ≡ deed.Outer (Reenter p)) × (is_dead_in (s.lock.phase p) ≡ true)
+reenters : (s : State) (d : Deed) (p : ℕ) → Sole s → AllHold (needs (with_one_inside s) d) → p < s.procs → Holds (s.lock.phase p) → IsEntry d → (d ≡ deed.Outer (Reenter p)) × (is_dead_in (s.lock.phase p) ≡ true)
 reenters s d p sole h lp holds (q, inl e) =
-    let P : Deed → Type 0 = λ k. AllHold (needs s k) in
+    let P : Deed → Type 0 = λ k. AllHold (needs (with_one_inside s) k) in
     absurd (no_enter s p q (subst P e h) lp holds)
 reenters s d p sole h lp holds (q, inr e) =
-    let P : Deed → Type 0 = λ k. AllHold (needs s k) in
-    let g : AllHold (needs s (deed.Outer (Reenter q))) = subst P e h in
-    let same : q ≡ p = sole q p (doer_below s (deed.Outer (Reenter q)) g) lp (inr g.1.0) holds in
+    let P : Deed → Type 0 = λ k. AllHold (needs (with_one_inside s) k) in
+    let g : AllHold (needs (with_one_inside s) (deed.Outer (Reenter q))) = subst P e h in
+    let same : q ≡ p = sole q p (doer_below (with_one_inside s) (deed.Outer (Reenter q)) g) lp (inr g.1.0) holds in
     (e ∙ ap (λ k. deed.Outer (Reenter k)) same, subst (λ k. is_dead_in (s.lock.phase k) ≡ true) same g.1.0)
 
 -- while p is inside and doesn't leave or crash, no process enters
-none_enters : (s : State) (p : ℕ) (ds : List Deed) (j : ℕ) → Sole s → p < s.procs → s.lock.phase p ≡ phase.Inside → Allowed s ds → NoneBefore ds j (IsExitOf p) → HasDeedAt ds j IsEntry → ⊥
+none_enters : (s : State) (p : ℕ) (ds : List Deed) (j : ℕ) → Sole s → p < s.procs → s.lock.phase p ≡ phase.Inside → Allowed (with_one_inside s) ds → NoneBefore ds j (IsExitOf p) → HasDeedAt ds j IsEntry → ⊥
 none_enters s p [] j sole lp e ok none here = here
 none_enters s p (d ∷ ds) zero sole lp e ok none here =
     let at = reenters s d p sole ok.0 lp (inl (ap is_inside e)) here in
@@ -94,7 +94,7 @@ none_enters s p (d ∷ ds) (suc j) sole lp e ok none here =
     none_enters (after s d) p ds j (Sole-after s d ok.0 sole) (rw (procs-after s d) lp)
     (inside_stays s d p ok.0 e (none zero (omega arith))) ok.1 (λ k l. none (suc k) (omega arith)) here
 
-pub NoTwoInside-from_allowed : (s : State) (ds : List Deed) → Sole s → Allowed s ds → NoTwoInside ds
+pub NoTwoInside-from_allowed : (s : State) (ds : List Deed) → Sole s → Allowed (with_one_inside s) ds → NoTwoInside ds
 NoTwoInside-from_allowed s [] sole ok p i j entry l none here = here
 NoTwoInside-from_allowed s (d ∷ ds) sole ok p i zero entry l none here = absurd (omega arith)
 NoTwoInside-from_allowed s (d ∷ ds) sole ok p zero (suc j) entry l none here =
@@ -104,7 +104,7 @@ NoTwoInside-from_allowed s (d ∷ ds) sole ok p (suc i) (suc j) entry l none her
     NoTwoInside-from_allowed (after s d) ds (Sole-after s d ok.0 sole) ok.1 p i j entry (omega arith) (λ k a b. none (suc k) (omega arith) (omega arith)) here
 
 -- while p is dead in, the next entry is its own
-pub next_is_own : (s : State) (p : ℕ) (ds : List Deed) (j : ℕ) → Sole s → p < s.procs → s.lock.phase p ≡ phase.DeadIn → Allowed s ds → NoneBefore ds j IsEntry → HasDeedAt ds j IsEntry → IsDeedAt ds j (deed.Outer (Reenter p))
+pub next_is_own : (s : State) (p : ℕ) (ds : List Deed) (j : ℕ) → Sole s → p < s.procs → s.lock.phase p ≡ phase.DeadIn → Allowed (with_one_inside s) ds → NoneBefore ds j IsEntry → HasDeedAt ds j IsEntry → IsDeedAt ds j (deed.Outer (Reenter p))
 next_is_own s p [] j sole lp e ok none here = here
 next_is_own s p (d ∷ ds) zero sole lp e ok none here =
     (reenters s d p sole ok.0 lp (inr (ap is_dead_in e)) here).0
@@ -113,7 +113,7 @@ next_is_own s p (d ∷ ds) (suc j) sole lp e ok none here =
     (dead_stays s d p ok.0 e (λ k. none zero (omega arith) (p, k))) ok.1 (λ k l. none (suc k) (omega arith)) here
 
 -- p is inside and crashes at position c
-dead_after : (s : State) (p : ℕ) (ds : List Deed) (c j : ℕ) → Sole s → p < s.procs → s.lock.phase p ≡ phase.Inside → Allowed s ds → NoneBefore ds c (IsExitOf p) → IsDeedAt ds c (deed.Outer (Crash p))
+dead_after : (s : State) (p : ℕ) (ds : List Deed) (c j : ℕ) → Sole s → p < s.procs → s.lock.phase p ≡ phase.Inside → Allowed (with_one_inside s) ds → NoneBefore ds c (IsExitOf p) → IsDeedAt ds c (deed.Outer (Crash p))
     → c < j → NoneBetween ds c j IsEntry → HasDeedAt ds j IsEntry → IsDeedAt ds j (deed.Outer (Reenter p))
 dead_after s p [] c j sole lp e ok none crash l silent here = here
 dead_after s p (d ∷ ds) c zero sole lp e ok none crash l silent here = absurd (omega arith)
@@ -127,7 +127,7 @@ dead_after s p (d ∷ ds) (suc c) (suc j) sole lp e ok none crash l silent here 
     (inside_stays s d p ok.0 e (none zero (omega arith))) ok.1 (λ k l. none (suc k) (omega arith)) crash (omega arith)
     (λ k a b. silent (suc k) (omega arith) (omega arith)) here
 
-pub DeadReenters-from_allowed : (s : State) (ds : List Deed) → Sole s → Allowed s ds → DeadReenters ds
+pub DeadReenters-from_allowed : (s : State) (ds : List Deed) → Sole s → Allowed (with_one_inside s) ds → DeadReenters ds
 DeadReenters-from_allowed s [] sole ok p i c j entry l none crash m silent here = here
 DeadReenters-from_allowed s (d ∷ ds) sole ok p i zero j entry l none crash m silent here = absurd (omega arith)
 DeadReenters-from_allowed s (d ∷ ds) sole ok p i (suc c) zero entry l none crash m silent here = absurd (omega arith)

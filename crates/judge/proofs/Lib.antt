@@ -14,4 +14,5 @@ pub mod Sets
 pub mod Starts
 pub mod Halves
 pub mod Agreement
+pub mod Exclusion
 pub mod AlikeStates

@@ -4,7 +4,7 @@ use Rattle.judge.proofs.Common.{Begin, Enter, Quit, is_ready, AllHold, put_same,
 use Rattle.judge.proofs.Common.{needs, after}
 use Rattle.redomail.specs.declared.deed.Deed.TheVariants as deed
 use Rattle.rmecore.specs.declared.phase.Phase.TheVariants as phase
-use Rattle.judge.proofs.Steps.{Allowed, put_cases, none_below-at, procs-after, doer_below, ready_stays, is_gone, is_end_while_ready}
+use Rattle.judge.proofs.Steps.{Allowed, with_one_inside, put_cases, none_below-at, procs-after, doer_below, ready_stays, is_gone, is_end_while_ready}
 
 -- the same, one deed later
 later : (d : Deed) (ds : List Deed) (p e : ℕ) → (IsEndOf p d → ⊥) → GoneBefore ds p e → GoneBefore (d ∷ ds) p (suc e)
@@ -32,11 +32,11 @@ ahead_stays s (deed.Outer (Quit r)) p q e a other =
 ahead_stays s _ p q e a other = a
 
 -- p is ready and q waits for it: p enters or quits before q enters
-pub gone_ahead : (s : State) (p q : ℕ) (ds : List Deed) (e : ℕ) → p < s.procs → s.lock.phase p ≡ phase.Ready → s.lock.ahead q p ≡ true → Allowed s ds → IsDeedAt ds e (deed.Outer (Enter q)) → GoneBefore ds p e
+pub gone_ahead : (s : State) (p q : ℕ) (ds : List Deed) (e : ℕ) → p < s.procs → s.lock.phase p ≡ phase.Ready → s.lock.ahead q p ≡ true → Allowed (with_one_inside s) ds → IsDeedAt ds e (deed.Outer (Enter q)) → GoneBefore ds p e
 gone_ahead s p q [] e lp r a ok here = absurd here
 gone_ahead s p q (d ∷ ds) zero lp r a ok here =
-    let P : Deed → Type 0 = λ k. AllHold (needs s k) in
-    let g : AllHold (needs s (deed.Outer (Enter q))) = subst P here ok.0 in
+    let P : Deed → Type 0 = λ k. AllHold (needs (with_one_inside s) k) in
+    let g : AllHold (needs (with_one_inside s) (deed.Outer (Enter q))) = subst P here ok.0 in
     absurd (none_below-at s.procs (s.lock.ahead q) p g.1.1.1.1.0 lp a)
 gone_ahead s p q (d ∷ ds) (suc e) lp r a ok here =
     elim (is_gone p d) [
@@ -47,7 +47,7 @@ gone_ahead s p q (d ∷ ds) (suc e) lp r a ok here =
     ]
 
 -- p is ready, and q begins at b and enters at e: p enters or quits before e
-pub gone_first : (s : State) (p q : ℕ) (ds : List Deed) (b e : ℕ) → p < s.procs → s.lock.phase p ≡ phase.Ready → Allowed s ds → IsDeedAt ds b (deed.Outer (Begin q)) → b < e → IsDeedAt ds e (deed.Outer (Enter q)) → GoneBefore ds p e
+pub gone_first : (s : State) (p q : ℕ) (ds : List Deed) (b e : ℕ) → p < s.procs → s.lock.phase p ≡ phase.Ready → Allowed (with_one_inside s) ds → IsDeedAt ds b (deed.Outer (Begin q)) → b < e → IsDeedAt ds e (deed.Outer (Enter q)) → GoneBefore ds p e
 gone_first s p q [] b e lp r ok begins l here = absurd here
 gone_first s p q (d ∷ ds) b zero lp r ok begins l here = absurd (omega arith)
 gone_first s p q (d ∷ ds) zero (suc e) lp r ok begins l here =
@@ -93,7 +93,7 @@ moved_on d ds p i e w = record {
   none_between d ds p i k none zero a b h = absurd (omega arith)
   none_between d ds p i k none (suc j) a b h = none j (omega arith) (omega arith) h
 
-pub FirstComeFirstServed-from_allowed : (s : State) (ds : List Deed) → Allowed s ds → FirstComeFirstServed ds
+pub FirstComeFirstServed-from_allowed : (s : State) (ds : List Deed) → Allowed (with_one_inside s) ds → FirstComeFirstServed ds
 FirstComeFirstServed-from_allowed s [] ok p q r b e readies l begins m none here = absurd here
 FirstComeFirstServed-from_allowed s (d ∷ ds) ok p q r zero e readies l begins m none here = absurd (omega arith)
 FirstComeFirstServed-from_allowed s (d ∷ ds) ok p q r (suc b) zero readies l begins m none here = absurd (omega arith)
@@ -101,7 +101,7 @@ FirstComeFirstServed-from_allowed s (d ∷ ds) ok p q zero (suc b) (suc e) readi
     let P : Deed → Type 0 = λ k. (after s k).lock.phase p ≡ phase.Ready in
     let Q : Deed → Type 0 = λ k. doer k < s.procs in
     let ready : (after s d).lock.phase p ≡ phase.Ready = subst P (sym readies) (put_same s.lock.phase p phase.Ready) in
-    let lp : p < s.procs = subst Q readies (doer_below s d ok.0) in
+    let lp : p < s.procs = subst Q readies (doer_below (with_one_inside s) d ok.0) in
     whole d ds p e (gone_first (after s d) p q ds b e (rw (procs-after s d) lp) ready ok.1 begins (omega arith) here)
 FirstComeFirstServed-from_allowed s (d ∷ ds) ok p q (suc r) (suc b) (suc e) readies l begins m none here =
     moved_on d ds p r e (FirstComeFirstServed-from_allowed (after s d) ds ok.1 p q r b e readies (omega arith) begins (omega arith)

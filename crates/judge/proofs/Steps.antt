@@ -65,8 +65,12 @@ stays f q p x y t e here other =
 stays_at : (f : ℕ → Phase) (q p : ℕ) (x y : Phase) → f p ≡ y → (p ≡ q → x ≡ y) → put f q x p ≡ y
 stays_at f q p x y e same = put_cases f q p x (λ z. z ≡ y) same (λ _. e)
 
+-- the state, of mutual exclusion
+abbrev pub with_one_inside : State → State
+with_one_inside s = record s { most_inside = 1 }
+
 -- A process that is inside stays inside until it leaves or crashes.
-pub inside_stays : (s : State) (d : Deed) (p : ℕ) → AllHold (needs s d) → s.lock.phase p ≡ phase.Inside → (IsExitOf p d → ⊥) → (after s d).lock.phase p ≡ phase.Inside
+pub inside_stays : (s : State) (d : Deed) (p : ℕ) → AllHold (needs (with_one_inside s) d) → s.lock.phase p ≡ phase.Inside → (IsExitOf p d → ⊥) → (after s d).lock.phase p ≡ phase.Inside
 inside_stays s (deed.Outer (Begin q)) p h e not_it = stays s.lock.phase q p _ _ is_out e h.1.0 refl
 inside_stays s (deed.Outer (Ready q)) p h e not_it = stays s.lock.phase q p _ _ is_door e h.1.0 refl
 inside_stays s (deed.Outer (Enter q)) p h e not_it = stays s.lock.phase q p _ _ is_ready e h.1.0 refl
@@ -79,7 +83,7 @@ inside_stays s (deed.Outer (Quit q)) p h e not_it = stays s.lock.phase q p _ _ i
 inside_stays s _ p h e not_it = e
 
 -- A process that is dead in stays so until it enters again.
-pub dead_stays : (s : State) (d : Deed) (p : ℕ) → AllHold (needs s d) → s.lock.phase p ≡ phase.DeadIn → (IsEntryOf p d → ⊥) → (after s d).lock.phase p ≡ phase.DeadIn
+pub dead_stays : (s : State) (d : Deed) (p : ℕ) → AllHold (needs (with_one_inside s) d) → s.lock.phase p ≡ phase.DeadIn → (IsEntryOf p d → ⊥) → (after s d).lock.phase p ≡ phase.DeadIn
 dead_stays s (deed.Outer (Begin q)) p h e not_it = stays s.lock.phase q p _ _ is_out e h.1.0 refl
 dead_stays s (deed.Outer (Ready q)) p h e not_it = stays s.lock.phase q p _ _ is_door e h.1.0 refl
 dead_stays s (deed.Outer (Enter q)) p h e not_it = stays s.lock.phase q p _ _ is_ready e h.1.0 refl
@@ -92,7 +96,7 @@ dead_stays s (deed.Outer (Quit q)) p h e not_it = stays s.lock.phase q p _ _ is_
 dead_stays s _ p h e not_it = e
 
 -- A process that is ready stays so until it enters or quits.
-pub ready_stays : (s : State) (d : Deed) (p : ℕ) → AllHold (needs s d) → s.lock.phase p ≡ phase.Ready → (IsGoneOf p d → ⊥) → (after s d).lock.phase p ≡ phase.Ready
+pub ready_stays : (s : State) (d : Deed) (p : ℕ) → AllHold (needs (with_one_inside s) d) → s.lock.phase p ≡ phase.Ready → (IsGoneOf p d → ⊥) → (after s d).lock.phase p ≡ phase.Ready
 ready_stays s (deed.Outer (Begin q)) p h e not_it = stays s.lock.phase q p _ _ is_out e h.1.0 refl
 ready_stays s (deed.Outer (Ready q)) p h e not_it = stays s.lock.phase q p _ _ is_door e h.1.0 refl
 ready_stays s (deed.Outer (Enter q)) p h e not_it =
@@ -138,9 +142,9 @@ is_gone p (deed.Outer (Quit q)) =
 is_gone p _ = inr (neither _ _ _ (λ e. cc) (λ e. cc))
 
 -- a ready process can't leave, and its quit ends its super-passage
-pub is_end_while_ready : (s : State) (d : Deed) (p : ℕ) → AllHold (needs s d) → s.lock.phase p ≡ phase.Ready → (IsGoneOf p d → ⊥) → IsEndOf p d → ⊥
+pub is_end_while_ready : (s : State) (d : Deed) (p : ℕ) → AllHold (needs (with_one_inside s) d) → s.lock.phase p ≡ phase.Ready → (IsGoneOf p d → ⊥) → IsEndOf p d → ⊥
 is_end_while_ready s d p h e not_it (inl leaves) =
-    let P : Deed → Type 0 = λ k. AllHold (needs s k) in
-    let g : AllHold (needs s (deed.Outer (Leave p))) = subst P leaves h in
+    let P : Deed → Type 0 = λ k. AllHold (needs (with_one_inside s) k) in
+    let g : AllHold (needs (with_one_inside s) (deed.Outer (Leave p))) = subst P leaves h in
     apart is_inside (s.lock.phase p) phase.Ready g.1.0 refl e
 is_end_while_ready s d p h e not_it (inr quits) = not_it (inr quits)

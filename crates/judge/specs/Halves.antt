@@ -1,18 +1,26 @@
 -- "Legal history": the abstract lock and the mailbox list both allow its deeds.
 use Rattle.std.specs.Prelude.{◌≡◌, ℕ, ◌<◌, true, nat_lt, List, [], ◌∷◌}
 use Rattle.rmecore.specs.Needs.{AllHold}
-use Rattle.rmecore.specs.AbstractLock.{Abstract, is_inside}
+use Rattle.rmecore.specs.declared.fault.Fault.TheVariants.{OutOfPlace}
+use Rattle.rmecore.specs.AbstractLock.{Abstract, is_inside, doer as lock_doer, abstract_after}
 use Rattle.rmecore.specs.declared.outer.Outer.{Outer}
 use Rattle.redomail.specs.Mailbox.{Mailbox, doer, row, mailbox_after}
 use Rattle.redomail.specs.declared.deed.Deed.{Deed}
 use Rattle.redomail.specs.declared.deed.Deed.TheVariants as deed
-use Rattle.judge.specs.Table.{State, lock_after, after}
+use Rattle.judge.specs.Table.{State, exclusion_row, lock_after, after}
 
 -- the deeds of the lock among these
 abbrev pub outers : List Deed → List Outer
 outers [] = []
 outers (deed.Outer d ∷ ds) = d ∷ outers ds
 outers (_ ∷ ds) = outers ds
+
+-- Each of these deeds is by one of n processes, and the abstract lock allows it where at most k may be inside. For one it's
+-- `Legal`.
+abbrev pub LockAllows : ℕ → ℕ → Abstract → List Outer → Type 0
+LockAllows k n a [] = Unit {0}
+LockAllows k n a (d ∷ ds) =
+    AllHold ((nat_lt (lock_doer d) n, OutOfPlace) ∷ exclusion_row k n a d) × LockAllows k n (abstract_after a d) ds
 
 -- Each of these deeds is by one of n processes, and the mailbox list with cap places allows it. The phases decide whether
 -- its process is inside. Leave has a need of the mailbox too: nothing is pending.

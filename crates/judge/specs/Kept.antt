@@ -12,6 +12,7 @@ use Rattle.judge.specs.declared.mail_part.MailPart.{MailPart}
 pub record Kept : Type 0 where
   pub procs : ℕ
   pub cap : ℕ
+  pub most_inside : ℕ
   pub phases : List Phase
   pub ahead : List ℕ
   pub counts : List ℕ
@@ -62,6 +63,7 @@ kept_with k phases ahead counts mail =
     record {
       procs = k.procs;
       cap = k.cap;
+      most_inside = k.most_inside;
       phases = phases;
       ahead = ahead;
       counts = counts;

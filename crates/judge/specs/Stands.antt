@@ -10,6 +10,7 @@ use Rattle.judge.specs.Kept.{Kept, Lists, HasRows}
 pub record Keeps (judge : Kept) (s : State) : Type 0 where
   pub procs : judge.procs ≡ s.procs
   pub cap : judge.cap ≡ s.cap
+  pub most_inside : judge.most_inside ≡ s.most_inside
   pub phases : Lists judge.phases s.procs s.lock.phase
   pub ahead : HasRows judge.ahead s.procs s.lock.ahead
   pub counts : Lists judge.counts s.procs (λ p. count_by (is_by p) s.mail.shown)

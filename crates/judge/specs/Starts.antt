@@ -26,6 +26,7 @@ abbrev pub state_of : Start → State
 state_of start = record {
   procs = start.procs;
   cap = start.cap;
+  most_inside = 1;
   lock = record { phase = phase_in start.phases; ahead = is_ahead start };
   mail = record { shown = start.shown; pending = start.pending; closed = start.closed; ruined = start.ruined };
 }

@@ -7,6 +7,7 @@ abbrev pub kept_of : Inside → Kept
 kept_of judge = record {
   procs = judge.procs;
   cap = judge.cap;
+  most_inside = judge.most_inside;
   phases = judge.phases.items;
   ahead = judge.ahead.items;
   counts = judge.counts.items;

@@ -1,16 +1,17 @@
 //! The judge: it checks one deed of a history after another, without allocating.
 
 ghost use Rattle.std.specs.Prelude.{◌≡◌, ℕ, ◌+◌, ◌==◌, count_by, nat_lt, length, ◌<◌, ◌≤◌, ◌↔◌, ◌⊎◌, Bool, true, is_some, List, [], ◌∷◌, ◌++◌, IfNone, IfSome, IsSome, All, slice_index, IsTrue, IfOk, IfErr, IsErrOf, MatchResult, OnErr, OnOk, Ok, Err, false};
-ghost use Rattle.rmecore.specs.AbstractLock.{is_inside, is_dead_in, doer as lock_doer};
-ghost use Rattle.rmecore.specs.Needs.{put, least_below, none_below, first_fault as fault_of};
+ghost use Rattle.rmecore.specs.AbstractLock.{doer as lock_doer};
+ghost use Rattle.rmecore.specs.Needs.{put, least_below, first_fault as fault_of};
 ghost use Rattle.redomail.specs.Mailbox.{is_by};
-ghost use Rattle.judge.specs.Table.{State, empty_state, lock_needs, mail_needs, needs, after, state_after_deed};
+ghost use Rattle.judge.specs.Table.{State, empty_state, empty_state_of, count_inside, count_dead_in, lock_needs, mail_needs, needs, after, state_after_deed};
 ghost use Rattle.judge.specs.Legal.{judged_all};
 ghost use Rattle.judge.specs.Kept.{HasRoom, Lists};
 ghost use Rattle.judge.specs.Stands.{Keeps, StandsAfter};
 ghost use Rattle.judge.specs.Starts.{state_of, IsStart, IsWithin, LockHolds, MailHolds};
 
 use crate::deeds::{doer, is_pending};
+use crate::faults::{fault_unless, first_fault};
 use crate::mail_part::MailPart;
 use crate::start::Start;
 use crate::{place, rows, shape};
@@ -25,6 +26,7 @@ use std::marker::Model;
 pub struct Judge {
     procs: u64,
     cap: u64,
+    most_inside: u64,
     phases: Vec<Phase>,
     ahead: Vec<u64>,
     counts: Vec<u64>,
@@ -46,25 +48,6 @@ impl Model for Judge {
     ghost invariant = { λ judge. IsSound (kept_of judge) };
 }
 
-/// The fault of the first need that is not met.
-fn first_fault(needs: &[(bool, Fault)]) -> Option<Fault>
-    ensures { result ≡ fault_of needs.now }
-{
-    for need in needs {
-        if !need.0 {
-            return Some(need.1);
-        }
-    }
-    None
-}
-
-/// The fault, unless the one need is met.
-fn fault_unless(met: bool, fault: Fault) -> Option<Fault>
-    ensures { result ≡ fault_of ((met, fault) ∷ []) }
-{
-    if met { None } else { Some(fault) }
-}
-
 impl Judge {
     /// A judge of a new lock, before any deed. `procs` is 1 to 64, `cap`, the mailbox's capacity in messages, 1 to 65,536.
     ///
@@ -75,14 +58,35 @@ impl Judge {
         ensures cap { IsErrOf result Refusal.BadCap ↔ ((0 < procs) × (procs ≤ 64) × ((cap ≡ 0) ⊎ (65536 < cap))) }
         ensures only { IfErr result (λ r. (r ≡ Refusal.BadProcs) ⊎ (r ≡ Refusal.BadCap) ⊎ (r ≡ Refusal.OutOfMemory)) }
     {
+        Judge::of_exclusion(alloc, 1, procs, cap)
+    }
+
+    /// As `new`, of k-exclusion: at most `most_inside` processes are inside at once, those that crashed there counted. 0: none
+    /// may enter.
+    pub fn of_exclusion(
+        alloc: Global,
+        most_inside: u64,
+        procs: u64,
+        cap: u64,
+    ) -> Result<Judge, Refusal>
+        ensures made { IfOk result (λ judge. StandsAfter (empty_state_of most_inside procs cap) [] judge) }
+        ensures procs { IsErrOf result Refusal.BadProcs ↔ ((procs ≡ 0) ⊎ (64 < procs)) }
+        ensures cap { IsErrOf result Refusal.BadCap ↔ ((0 < procs) × (procs ≤ 64) × ((cap ≡ 0) ⊎ (65536 < cap))) }
+        ensures only { IfErr result (λ r. (r ≡ Refusal.BadProcs) ⊎ (r ≡ Refusal.BadCap) ⊎ (r ≡ Refusal.OutOfMemory)) }
+    {
         shape::check_sizes(procs, cap)?;
-        Ok(Judge::with_nothing_shown(alloc, procs, cap)?)
+        Ok(Judge::with_nothing_shown(alloc, most_inside, procs, cap)?)
     }
 
     /// A judge of a new lock of these sizes.
-    fn with_nothing_shown(alloc: Global, procs: u64, cap: u64) -> Result<Judge, AllocError>
+    fn with_nothing_shown(
+        alloc: Global,
+        most_inside: u64,
+        procs: u64,
+        cap: u64,
+    ) -> Result<Judge, AllocError>
         requires { IsWithin procs cap }
-        ensures { IfOk result (λ judge. StandsAfter (empty_state procs cap) [] judge) }
+        ensures { IfOk result (λ judge. StandsAfter (empty_state_of most_inside procs cap) [] judge) }
     {
         let n = procs as usize;
         let phases = vec![in alloc; Phase::Out; n]?;
@@ -91,6 +95,7 @@ impl Judge {
         Ok(Judge {
             procs,
             cap,
+            most_inside,
             phases,
             ahead,
             counts,
@@ -136,6 +141,7 @@ impl Judge {
         Ok(Judge {
             procs: start.procs,
             cap: start.cap,
+            most_inside: 1,
             phases,
             ahead,
             counts,
@@ -178,18 +184,20 @@ impl Judge {
         rows::least_in(self.ahead[p as usize], self.procs)
     }
 
-    /// Whether no process is inside.
-    fn none_inside(&self) -> bool
-        ensures { (s : State) → Keeps self.now s → result ≡ none_below s.procs (λ q. is_inside (s.lock.phase q)) }
+    /// How many processes are inside.
+    fn count_inside(&self) -> usize
+        ensures count { (s : State) → Keeps self.now s → result ≡ count_inside s.procs s.lock }
+        ensures few { result ≤ 64 }
     {
-        !place::anyone_inside(&self.phases)
+        place::count_inside(&self.phases)
     }
 
-    /// Whether no process is dead in.
-    fn none_dead_in(&self) -> bool
-        ensures { (s : State) → Keeps self.now s → result ≡ none_below s.procs (λ q. is_dead_in (s.lock.phase q)) }
+    /// How many processes are dead in.
+    fn count_dead_in(&self) -> usize
+        ensures count { (s : State) → Keeps self.now s → result ≡ count_dead_in s.procs s.lock }
+        ensures few { result ≤ 64 }
     {
-        !place::anyone_dead_in(&self.phases)
+        place::count_dead_in(&self.phases)
     }
 }
 
@@ -200,10 +208,12 @@ impl Judge {
         ensures { (s : State) → Keeps self.now s → result ≡ fault_of (lock_needs s (Deed.Outer (Outer.Enter p))) }
     {
         let of = self.least_ahead(p);
+        let inside = self.count_inside() as u64;
+        let holding = inside + self.count_dead_in() as u64;
         first_fault(&[
             (place::is_ready(self.phase(p)), Fault::OutOfPlace),
-            (self.none_inside(), Fault::TwoInside),
-            (self.none_dead_in(), Fault::NotReentered),
+            (inside < self.most_inside, Fault::TwoInside),
+            (holding < self.most_inside, Fault::NotReentered),
             (of == self.procs, Fault::Overtaken { by: p, of }),
         ])
     }
@@ -391,18 +401,6 @@ impl Judge {
     }
 }
 
-/// Whether all counts are at most `most`.
-fn all_within(counts: &[u64], most: u64) -> bool
-    ensures { IsTrue result ↔ ((p : ℕ) → p < length counts.now → slice_index counts.now p ≤ most) }
-{
-    for count in counts {
-        if *count > most {
-            return false;
-        }
-    }
-    true
-}
-
 impl Judge {
     ghost use Rattle.judge.specs.Kept.{IsSound, row_word, kept_with};
 
@@ -466,7 +464,7 @@ impl Judge {
             && counts.len() == n
             && mail.shown <= self.cap
             && (mail.pending.is_none() || mail.shown < self.cap)
-            && all_within(counts, mail.shown)
+            && shape::all_within(counts, mail.shown)
     }
 
     /// For this workspace alone, the inverse of `seam_phases` and the others: sets the judge's state, without allocating.

@@ -1,20 +1,21 @@
 //! Laws over every list of deeds. Each law is the contract of a function with an empty body.
 
 ghost use Rattle.std.specs.Prelude.{◌≡◌, ◌<◌, ◌^◌, ◌↔◌, ℕ, Bool, List, [], ◌∷◌, ◌++◌, map, Ok};
-ghost use Rattle.rmecore.specs.AbstractLock.{Abstract, Legal};
+ghost use Rattle.rmecore.specs.AbstractLock.{Abstract, Legal, row};
+ghost use Rattle.rmecore.specs.declared.outer.Outer.TheVariants.{Enter};
 ghost use Rattle.rmecore.specs.Needs.{AllHold, first_fault};
 ghost use Rattle.rmecore.specs.Place.{Event};
 ghost use Rattle.rmecore.specs.World.{at_rest, Run, deeds};
 ghost use Rattle.redomail.specs.Mailbox.{doer};
 ghost use Rattle.judge.specs.Alike.{AreAlike};
-ghost use Rattle.judge.specs.Halves.{outers, MailAllows, all_after, Agree};
+ghost use Rattle.judge.specs.Halves.{outers, LockAllows, MailAllows, all_after, Agree};
 ghost use Rattle.judge.specs.Kept.{Kept, HasBits, row_word};
 ghost use Rattle.judge.specs.Legal.{Leads, IsLegal};
 ghost use Rattle.judge.specs.Plain.{IsPlain, LockInOrder};
 ghost use Rattle.judge.specs.PlainFrom.{IsPlainFrom};
 ghost use Rattle.judge.specs.Stands.{Keeps};
 ghost use Rattle.judge.specs.Starts.{state_of, IsStart};
-ghost use Rattle.judge.specs.Table.{State, lock_needs, mail_needs, needs, after, state_after_deed};
+ghost use Rattle.judge.specs.Table.{State, entry_needs, lock_needs, mail_needs, needs, after, state_after_deed};
 
 use crate::start::Start;
 use redomail::Deed;
@@ -42,12 +43,14 @@ pub fn core_runs_are_legal()
     rmecore::laws::every_run_is_legal();
 }
 
-/// A list of deeds is legal from a state exactly if the abstract lock allows its deeds of the lock and the mailbox list
-/// allows each deed.
+/// A list of deeds is legal from a state exactly if the lock allows its deeds of the lock and the mailbox list allows each
+/// deed. Where one process may be inside, the lock is the abstract lock.
 pub fn histories_have_two_halves()
-    ensures together { (s : State) (history : List Deed) → Legal s.procs s.lock (outers history)
+    ensures together { (s : State) (history : List Deed) → LockAllows s.most_inside s.procs s.lock (outers history)
         → MailAllows s.procs s.cap s.lock s.mail history → Leads s history (all_after s history) }
-    ensures lock { (s t : State) (history : List Deed) → Leads s history t → Legal s.procs s.lock (outers history) }
+    ensures lock { (s t : State) (history : List Deed) → Leads s history t
+        → LockAllows s.most_inside s.procs s.lock (outers history) }
+    ensures one { (n : ℕ) (a : Abstract) (deeds : List Outer) → LockAllows 1 n a deeds ↔ Legal n a deeds }
     ensures mail { (s t : State) (history : List Deed) → Leads s history t → MailAllows s.procs s.cap s.lock s.mail history }
     ensures state { (s t : State) (history : List Deed) → Leads s history t → t ≡ all_after s history }
 {}
@@ -69,6 +72,11 @@ pub fn only_the_processes_count()
     ensures lock { (n : ℕ) (a b : Abstract) (deeds : List Outer) → Agree n a b → Legal n a deeds → Legal n b deeds }
     ensures history { (s t : State) (b : Abstract) (history : List Deed) → Agree s.procs s.lock b → Leads s history t
         → Leads (record s { lock = b }) history (all_after (record s { lock = b }) history) }
+{}
+
+/// Where one process may be inside, the needs of k-exclusion find the fault that the abstract lock's row finds.
+pub fn exclusion_of_one_is_mutual_exclusion()
+    ensures { (n : ℕ) (a : Abstract) (p : ℕ) → first_fault (entry_needs 1 n a p) ≡ first_fault (row n a (Enter p)) }
 {}
 
 /// The number of a row of bits has these bits and no others.

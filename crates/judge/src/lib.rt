@@ -6,6 +6,7 @@
 
 pub mod ahead;
 mod deeds;
+mod faults;
 pub mod judge;
 pub mod laws;
 pub mod mail_part;

@@ -1,6 +1,6 @@
 //! Tests of a process's phase.
 
-ghost use Rattle.std.specs.Prelude.{◌≡◌};
+ghost use Rattle.std.specs.Prelude.{◌≡◌, count_by};
 ghost use Rattle.std.specs.List.{list_any};
 ghost use Rattle.rmecore.specs.AbstractLock.{is_out as is_at_out, is_door as is_at_door, is_ready as is_at_ready, is_inside as is_at_inside, is_dead_in as is_at_dead_in, phase_after_crash as crashed_from};
 
@@ -58,9 +58,28 @@ pub(crate) fn anyone_inside(phases: &[Phase]) -> bool
     phases.contains(&Phase::Inside)
 }
 
-/// Whether a process is dead in.
-pub(crate) fn anyone_dead_in(phases: &[Phase]) -> bool
-    ensures { result ≡ list_any is_at_dead_in phases.now }
+/// How many processes are inside.
+pub(crate) fn count_inside(phases: &[Phase]) -> usize
+    ensures { result ≡ count_by is_at_inside phases.now }
 {
-    phases.contains(&Phase::DeadIn)
+    let mut count = 0;
+    for phase in phases {
+        if is_inside(*phase) {
+            count += 1;
+        }
+    }
+    count
+}
+
+/// How many processes are dead in.
+pub(crate) fn count_dead_in(phases: &[Phase]) -> usize
+    ensures { result ≡ count_by is_at_dead_in phases.now }
+{
+    let mut count = 0;
+    for phase in phases {
+        if is_dead_in(*phase) {
+            count += 1;
+        }
+    }
+    count
 }

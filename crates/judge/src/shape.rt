@@ -1,7 +1,7 @@
 //! Checks of sizes and of a start. They do not allocate.
 
 ghost use Rattle.std.specs.Prelude.{◌≡◌, ℕ, ◌+◌, ◌<◌, ◌≤◌, ◌↔◌, ◌⊎◌, true, All, IsTrue, IfSome, IsSome, IfErr, IsErrOf, OnOk, length, count_by, map, slice_index, is_none};
-ghost use Rattle.rmecore.specs.AbstractLock.{is_ready as is_at_ready, is_dead_in as is_at_dead_in};
+ghost use Rattle.rmecore.specs.AbstractLock.{is_ready as is_at_ready};
 ghost use Rattle.redomail.specs.Mailbox.{is_by};
 ghost use Rattle.judge.specs.Kept.{Lists};
 ghost use Rattle.judge.specs.Starts.{IsWithin, phase_in, IsNextMessage, AreNumbered, LockHolds, MailHolds};
@@ -27,24 +27,23 @@ pub(crate) fn check_sizes(procs: u64, cap: u64) -> Result<(), Refusal>
     Ok(())
 }
 
+/// Whether all counts are at most `most`.
+pub(crate) fn all_within(counts: &[u64], most: u64) -> bool
+    ensures { IsTrue result ↔ ((p : ℕ) → p < length counts.now → slice_index counts.now p ≤ most) }
+{
+    for count in counts {
+        if *count > most {
+            return false;
+        }
+    }
+    true
+}
+
 /// A process's phase. An index past the list is out.
 fn phase_at(phases: &[Phase], p: u64) -> Phase
     ensures { result ≡ phase_in phases.now p }
 {
     phases.get(p as usize).copied().unwrap_or(Phase::Out)
-}
-
-/// The number of processes that are dead in.
-fn dead_in(phases: &[Phase]) -> usize
-    ensures { result ≡ count_by is_at_dead_in phases.now }
-{
-    let mut count = 0;
-    for phase in phases {
-        if place::is_dead_in(*phase) {
-            count += 1;
-        }
-    }
-    count
 }
 
 /// Whether all these processes are ready.
@@ -112,7 +111,9 @@ fn lock_holds(start: &Start) -> bool
     if phases.len() as u64 != start.procs || sets.len() as u64 != start.procs {
         return false;
     }
-    !place::anyone_inside(phases) && dead_in(phases) <= 1 && all_sets_ready(phases, sets)
+    !place::anyone_inside(phases)
+        && place::count_dead_in(phases) <= 1
+        && all_sets_ready(phases, sets)
 }
 
 /// Whether the start's pending message is possible.

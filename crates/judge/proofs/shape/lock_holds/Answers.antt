@@ -20,8 +20,8 @@ returns-then-phases-start c = (
   ],
 )
 
-pub returns-then-dead_in-le1 : goal.returns-then-dead_in-le1
-returns-then-dead_in-le1 c =
+pub returns-then-count_dead_in-le1 : goal.returns-then-count_dead_in-le1
+returns-then-count_dead_in-le1 c =
     let start = c.args.start.now in
     let phases = c.as_slice-phases.result.now in
     let many = length-map {B = List ℕ} c.as_slice-sets.result.now (λ names. names.items) in (
@@ -31,21 +31,21 @@ returns-then-dead_in-le1 c =
           ahead = omega (arith, many, ap length c.as_slice-sets.ensures, c.if-sets-start.false);
           nobody_in = ap (list_any is_inside) (sym c.as_slice-phases.ensures) ∙ (sym c.anyone_inside.ensures ∙ w.if-not-anyone_inside.true);
           one_dead =
-              let few = leb-true w.dead_in.result 1 (sym w.value-is ∙ c.if-dead_in-le1.true) in
-              omega (arith, few, w.dead_in.ensures, ap (count_by is_dead_in) c.as_slice-phases.ensures);
+              let few = leb-true w.count_dead_in.result 1 (sym w.value-is ∙ c.if-count_dead_in-le1.true) in
+              omega (arith, few, w.count_dead_in.ensures, ap (count_by is_dead_in) c.as_slice-phases.ensures);
           all_ready = subst (λ ps. AllReady ps start.ahead) c.as_slice-phases.ensures (subst (AllReady phases) c.as_slice-sets.ensures (c.all_sets_ready.ensures.0 e));
         }
-        | else-not-anyone_inside w ↦ absurd (false≢true (sym (w.value-is ∙ ap not w.if-not-anyone_inside.false) ∙ c.if-dead_in-le1.true))
+        | else-not-anyone_inside w ↦ absurd (false≢true (sym (w.value-is ∙ ap not w.if-not-anyone_inside.false) ∙ c.if-count_dead_in-le1.true))
       ],
       λ holds. c.all_sets_ready.ensures.1 (subst (AllReady phases) (sym c.as_slice-sets.ensures) (subst (λ ps. AllReady ps start.ahead) (sym c.as_slice-phases.ensures) holds.all_ready)),
     )
 
-pub returns-else-dead_in-le1 : goal.returns-else-dead_in-le1
-returns-else-dead_in-le1 c = (
-  λ e. absurd (false≢true (sym c.if-dead_in-le1.false ∙ e)),
+pub returns-else-count_dead_in-le1 : goal.returns-else-count_dead_in-le1
+returns-else-count_dead_in-le1 c = (
+  λ e. absurd (false≢true (sym c.if-count_dead_in-le1.false ∙ e)),
   λ holds. elim c.if-not-anyone_inside.branch [
     | then-not-anyone_inside w ↦
-        w.value-is ∙ le-leb w.dead_in.result 1 (omega (arith, holds.one_dead, w.dead_in.ensures, ap (count_by is_dead_in) c.as_slice-phases.ensures))
+        w.value-is ∙ le-leb w.count_dead_in.result 1 (omega (arith, holds.one_dead, w.count_dead_in.ensures, ap (count_by is_dead_in) c.as_slice-phases.ensures))
     | else-not-anyone_inside w ↦
         (let nobody = ap (list_any is_inside) c.as_slice-phases.ensures ∙ holds.nobody_in in
         absurd (false≢true (sym nobody ∙ (sym c.anyone_inside.ensures ∙ w.if-not-anyone_inside.false))))

@@ -13,6 +13,7 @@ returns c = λ s k.
     record {
       procs = k'.procs;
       cap = k'.cap;
+      most_inside = k'.most_inside;
       phases = Lists-set c.self.inside.phases.items s.procs c.args.p s.lock.phase _ le k'.phases;
       ahead = HasRows-set c.self.inside.ahead.items s.procs c.args.p s.lock.ahead _ c.ready_row.result wide k'.ahead ready;
       counts = k'.counts;

@@ -10,6 +10,7 @@ returns c = λ s k.
     record {
       procs = k'.procs;
       cap = k'.cap;
+      most_inside = k'.most_inside;
       phases = Lists-set c.self.inside.phases.items s.procs c.args.p s.lock.phase _ le k'.phases;
       ahead = k'.ahead;
       counts = k'.counts;

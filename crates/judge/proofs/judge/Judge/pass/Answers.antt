@@ -13,6 +13,7 @@ returns c = λ s k.
     record {
       procs = k'.procs;
       cap = k'.cap;
+      most_inside = k'.most_inside;
       phases = Lists-set c.self.inside.phases.items s.procs c.args.p s.lock.phase _ le k'.phases;
       ahead = rw (take-refilled c.self.inside.ahead.len _ c.self.inside.ahead.items filled) cleared;
       counts = k'.counts;

@@ -12,6 +12,7 @@ returns c = λ s at seq v k.
     record {
       procs = k'.procs;
       cap = k'.cap;
+      most_inside = k'.most_inside;
       phases = k'.phases;
       ahead = k'.ahead;
       counts = Lists-counted c.self.inside.counts.items s.procs s.mail.shown (message c.args.p seq v) c.index_mut.result.now le below c.index_mut.ensures.value k'.counts;

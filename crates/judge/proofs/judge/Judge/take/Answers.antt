@@ -44,6 +44,7 @@ returns-in-Commit c = λ s k.
     rw c.in-Commit.is (record {
       procs = k'.procs;
       cap = k'.cap;
+      most_inside = k'.most_inside;
       phases = k'.phases;
       ahead = k'.ahead;
       counts = k'.counts;
@@ -59,6 +60,7 @@ returns-in-Close c = λ s k.
     rw c.in-Close.is (record {
       procs = k'.procs;
       cap = k'.cap;
+      most_inside = k'.most_inside;
       phases = k'.phases;
       ahead = k'.ahead;
       counts = k'.counts;
@@ -74,6 +76,7 @@ returns-in-Ruin c = λ s k.
     rw c.in-Ruin.is (record {
       procs = k'.procs;
       cap = k'.cap;
+      most_inside = k'.most_inside;
       phases = k'.phases;
       ahead = k'.ahead;
       counts = k'.counts;

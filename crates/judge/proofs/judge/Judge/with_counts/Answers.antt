@@ -15,6 +15,7 @@ returns-clause-made c =
       kept = record {
         procs = refl;
         cap = refl;
+        most_inside = refl;
         phases = λ k d l.
             let within : k < length start.phases = omega (arith, holds.lock.phases) in
             ap (λ xs. get_or xs k d) (c.in_ok-phases.ensures.items ∙ c.as_slice.ensures) ∙ get_or_default start.phases k d Out within;

@@ -1,15 +1,16 @@
 use Rattle.std.proofs.Common.{refl, arith}
-use Rattle.judge.proofs.Common.{empty_state, Lists, false≢true}
+use Rattle.judge.proofs.Common.{empty_state_of, Lists, false≢true}
 use Rattle.judge.proofs.Writes.{Lists-replicate, HasRows-replicate}
 use Rattle.judge.proofs.judge.Judge.with_nothing_shown.Goals as goal
 
 pub returns : goal.returns
 returns c = record {
-  state = empty_state c.args.procs c.args.cap;
+  state = empty_state_of c.args.most_inside c.args.procs c.args.cap;
   legal = refl;
   kept = record {
     procs = refl;
     cap = refl;
+    most_inside = refl;
     phases = Lists-replicate _ _ _ (c.in_ok-phases.ensures.items_if_clones_equal (λ y e. e));
     ahead = HasRows-replicate _ _ (c.in_ok-ahead.ensures.items_if_clones_equal (λ y e. e));
     counts = Lists-replicate _ _ _ (c.in_ok-counts.ensures.items_if_clones_equal (λ y e. e));

@@ -1,8 +1,8 @@
-use Rattle.judge.proofs.shape.dead_in.Goals.{then-is_dead_in, else-is_dead_in}
+use Rattle.judge.proofs.place.count_dead_in.Goals.{then-is_dead_in, else-is_dead_in}
 use Rattle.judge.proofs.Common.{is_dead_in}
 use Rattle.std.proofs.lemmas.List.Sums.{count_by_more_yes, count_by_more_no}
 use Rattle.std.proofs.Common.{arith, sym}
-use Rattle.judge.proofs.shape.dead_in.Goals as goal
+use Rattle.judge.proofs.place.count_dead_in.Goals as goal
 
 pub loop-phase-preserved : goal.loop-phase-preserved
 loop-phase-preserved c = elim c.if-is_dead_in.branch [

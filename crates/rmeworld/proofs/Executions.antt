@@ -141,7 +141,7 @@ module _ (l : Layout) (limit : ℕ) (layout : IsLayout l) where
 
   -- the judge's state of words that are possible after a crash of every process
   pub state_is : (words : ℕ → Own) (cells : Words) (s : State) → IsLater l limit words cells s → s ≡ judge_of l (start_of words) s.mail
-  state_is words cells s h = λ i. record { procs = h.procs i; cap = h.cap i; lock = h.lock i; mail = s.mail }
+  state_is words cells s h = λ i. record { procs = h.procs i; cap = h.cap i; most_inside = h.most_inside i; lock = h.lock i; mail = s.mail }
 
   pub later : (words : ℕ → Own) (cells : Words) (s : State) → IsLater l limit words cells s → Kept l (start_of words) cells s.mail
   later words cells s h =

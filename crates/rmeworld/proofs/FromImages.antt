@@ -86,8 +86,8 @@ module _ (i : Image) (k : IsLawfulImage i) where
           let free : (w 3 ≡ 0) ⊎ ((mailbox_of l 0 w).ruined ≡ true) = elim (calm none) [ inl e ↦ inl e | inr e ↦ inr (ruined_is 0 e) ] in
           subst (Shape l q w) same (shape_passes_on l 0 q w (mailbox_of l 0 w) free here)
 
-  pub later_by : (s : State) → s.lock ≡ lock → s.procs ≡ length i.lock → s.cap ≡ i.cap → ((p : ℕ) → IsInAlone i p → s.mail ≡ mailbox_of l p w) → IsLater l i.limit (own_at i.lock) w s
-  later_by s at procs cap mail = record { lawful = k.lawful (omega arith); lock = at; procs = procs; cap = cap; sits = sits_by s at mail }
+  pub later_by : (s : State) → s.lock ≡ lock → s.procs ≡ length i.lock → s.cap ≡ i.cap → s.most_inside ≡ 1 → ((p : ℕ) → IsInAlone i p → s.mail ≡ mailbox_of l p w) → IsLater l i.limit (own_at i.lock) w s
+  later_by s at procs cap one mail = record { lawful = k.lawful (omega arith); lock = at; procs = procs; cap = cap; most_inside = one; sits = sits_by s at mail }
 
 length-crashed : (l : Layout) (limit p n : ℕ) → length (crashed_from l limit p n) ≡ n
 length-crashed l limit p zero = refl
@@ -127,7 +127,7 @@ alone i k = by (find_in (length i.lock) (start_of (own_at i.lock)).phase)
     by (inr h) = (0, λ q y. absurd (h q y.0 (phase_in i k q y)))
 
 abbrev state_at : Image → ℕ → State
-state_at i p = record { procs = length i.lock; cap = i.cap; lock = start_of (own_at i.lock); mail = mailbox_of (layout_of i) p (words_of i.cells) }
+state_at i p = record { procs = length i.lock; cap = i.cap; most_inside = 1; lock = start_of (own_at i.lock); mail = mailbox_of (layout_of i) p (words_of i.cells) }
 
 -- the mailbox that the words describe is the same, whichever process is alone in
 pub one_mailbox : (i : Image) (k : IsLawfulImage i) (p q : ℕ) → IsInAlone i p → IsInAlone i q → mailbox_of (layout_of i) p (words_of i.cells) ≡ mailbox_of (layout_of i) q (words_of i.cells)
@@ -149,7 +149,7 @@ phases_of (x ∷ xs) (suc p) = phases_of xs p
 pub started_later : (i : Image) (s : Start) → IsLawfulImage i → IsStartOf i s → IsLater (layout_of i) i.limit (own_at i.lock) (words_of i.cells) (state_of s)
 started_later i s k h =
     let phase : (p : ℕ) → phase_of_list s.phases p ≡ phase_by (own_at i.lock p) = λ p. ap (λ x. phase_of_list x p) h.phases ∙ phases_of i.lock p in
-    later_by i k (state_of s) (λ j. record { phase = λ p. phase p j; ahead = λ p. λ q. h.ahead p q j }) h.procs h.cap h.mail
+    later_by i k (state_of s) (λ j. record { phase = λ p. phase p j; ahead = λ p. λ q. h.ahead p q j }) h.procs h.cap refl h.mail
 
 pub image_world_is : (i : Image) → IsLawfulImage i → IsWorld (image_world i)
 image_world_is i k =
@@ -170,7 +170,7 @@ image_world_is i k =
       reached = record {
         first = crashed_global_state n (own_at i.lock) (words_of i.cells);
         state = state_at i a.0;
-        origin = inr (refl, later_by i k (state_at i a.0) refl refl refl (λ p h. one_mailbox i k a.0 p a.1 h));
+        origin = inr (refl, later_by i k (state_at i a.0) refl refl refl refl (λ p h. one_mailbox i k a.0 p a.1 h));
         execution = [];
         reports = tt;
         last = sym (image_global_state i);

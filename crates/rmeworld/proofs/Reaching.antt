@@ -135,7 +135,7 @@ later_origin l limit words cells s layout h =
       held = λ p. crashed_at (λ x. Held x.script_state x.lock) n p tt tt;
       kept = kept;
       posts = λ p below. crashed_below (λ x. PostAt l p (s.lock.phase p) cells s.mail x) n p below tt;
-      state = λ i. record { procs = h.procs i; cap = h.cap i; lock = s.lock; mail = s.mail };
+      state = λ i. record { procs = h.procs i; cap = h.cap i; most_inside = h.most_inside i; lock = s.lock; mail = s.mail };
     }
 
 pub origin : (l : Layout) (limit : ℕ) (w : GlobalState) (s : State) → IsLayout l → IsOrigin l limit w s → Origin l limit w s

@@ -25,7 +25,7 @@ AllowsBy n a (Some d) = AllHold (needs n a d)
 
 -- the judge's state over this lock and this mailbox
 abbrev pub judge_of : Layout → Abstract → Mailbox → State
-judge_of l a m = record { procs = l.procs; cap = l.cap; lock = a; mail = m }
+judge_of l a m = record { procs = l.procs; cap = l.cap; most_inside = 1; lock = a; mail = m }
 
 -- The invariant of the mailbox, besides what each process knows: at most one process is in, alive or crashed, and the words
 -- have the shape for it. If no process is in, they are clean or ruined.

@@ -78,4 +78,5 @@ pub record IsLater (l : Layout) (limit : ℕ) (words : ℕ → Own) (cells : Wor
   pub lock : s.lock ≡ start_of words
   pub procs : s.procs ≡ l.procs
   pub cap : s.cap ≡ l.cap
+  pub most_inside : s.most_inside ≡ 1
   pub sits : Sits l cells s

@@ -69,6 +69,12 @@ letters_of (Some (Number n)) = None
 letters_of (Some (Word letters)) = Some letters
 letters_of (Some (Mark sign)) = None
 
+abbrev pub number_in : Option Token → Option ℕ
+number_in None = None
+number_in (Some (Number n)) = Some n
+number_in (Some (Word letters)) = None
+number_in (Some (Mark sign)) = None
+
 -- ---- what has to come next
 
 -- a value where the test holds

@@ -13,10 +13,10 @@ use Rattle.algorithm_texts.specs.declared.lines.CallRead.{CallRead}
 use Rattle.algorithm_texts.specs.declared.lines.Opened.{Opened}
 use Rattle.algorithm_texts.specs.declared.tokens.Sign.TheVariants.{Comma, OpenIndex, Comparison}
 use Rattle.algorithm_texts.specs.declared.tokens.Token.{Token}
-use Rattle.algorithm_texts.specs.declared.tokens.Token.TheVariants.{Number as NumberToken, Word, Sign}
+use Rattle.algorithm_texts.specs.declared.tokens.Token.TheVariants.{Word}
 use Rattle.algorithm_texts.specs.Parts.{Term, Number, Private, Element, Me, Procs, Limit, Joined, ◌>>=◌}
 use Rattle.algorithm_texts.specs.Grammar.{Scope}
-use Rattle.algorithm_texts.specs.Fronts.{is_me, is_the_word, is_the_sign, value_if, past_word, past_sign, is_over, named_by, value_tokens, value_rest}
+use Rattle.algorithm_texts.specs.Fronts.{is_me, is_the_word, is_the_sign, number_in, value_if, past_word, past_sign, is_over, named_by, value_tokens, value_rest}
 use Rattle.algorithm_texts.specs.Drafts.{Drafted, DraftExtent, OneWord, OfProcesses, OfSize, OfRows, with_row}
 use Rattle.algorithm_texts.specs.LineDrafts.{read_value, read_brackets, scope_in, new_name, with_names, read_statement}
 use Rattle.algorithm_texts.specs.NeverClaims.{read_never}
@@ -293,12 +293,6 @@ read_line d tokens answer last =
 
 -- ---- the first two lines
 
-abbrev pub number_in : Option Token → Option ℕ
-number_in None = None
-number_in (Some (NumberToken n)) = Some n
-number_in (Some (Word letters)) = None
-number_in (Some (Sign sign)) = None
-
 -- the least and the greatest number of processes, and the tokens after them
 abbrev pub numbers_from : ℕ → List Token → Option (ℕ × ℕ × List Token)
 numbers_from least tokens = do
@@ -394,23 +388,38 @@ read_listed p tokens = past_sign tokens Comma >>= (λ rest. with_promises p (sli
 abbrev pub read_more : Promises → List Token → Option Promises
 read_more p tokens = if is_over tokens then Some p else read_listed p tokens
 
--- re-entry, order or both, and nothing else
-abbrev pub first_promises : Bool → Bool → Promises
-first_promises reentry order =
-    record { reentry = reentry; order = order; exit = None; recovery = None; doorway = None; progress = None; bounds = false }
+-- this many inside at once, re-entry, order or both, and nothing else
+abbrev pub first_promises : ℕ → Bool → Bool → Promises
+first_promises most_inside reentry order = record {
+  most_inside = most_inside;
+  reentry = reentry;
+  order = order;
+  exit = None;
+  recovery = None;
+  doorway = None;
+  progress = None;
+  bounds = false;
+}
 
--- what follows `exclusion`
-abbrev pub read_further_promises : List Token → Option Promises
-read_further_promises tokens =
+-- `of K` next, with the most processes inside at once, and the tokens after it. Without it there is one
+abbrev pub read_most_inside : List Token → Option (ℕ × List Token)
+read_most_inside tokens =
+    if is_the_word (slice_get tokens 0) (codes "of") then number_in (slice_get tokens 1) >>= (λ most. Some (most, drop 2 tokens))
+    else Some (1, tokens)
+
+-- what follows `exclusion` and the number of processes
+abbrev pub read_further_promises : ℕ → List Token → Option Promises
+read_further_promises most_inside tokens =
     let reentry = promise_at_front tokens (codes "reentry") in
     let order = promise_at_front reentry.1 (codes "order") in
-    read_more (first_promises reentry.0 order.0) order.1
+    read_more (first_promises most_inside reentry.0 order.0) order.1
 
 abbrev pub read_promises : List Token → Option Promises
 read_promises tokens = do
   rest ← past_word tokens (codes "promises")
   more ← past_word rest (codes "exclusion")
-  read_further_promises more
+  most ← read_most_inside more
+  read_further_promises most.0 most.1
 
 -- an algorithm of this name with nothing in it
 pub record IsEmpty (a : Algorithm) (name : List ℕ) (least most : ℕ) : Type 0 where

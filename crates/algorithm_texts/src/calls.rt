@@ -40,6 +40,7 @@ fn empty_algorithm(
         least,
         most,
         promises: Promises {
+            most_inside: 1,
             reentry: false,
             order: false,
             exit: None,

@@ -312,7 +312,8 @@ fn same_step_bounds(left: Promises, right: Promises) -> bool
 fn same_promises(left: Promises, right: Promises) -> bool
     ensures { IsTrue result ↔ (left ≡ right) }
 {
-    (left.reentry == right.reentry && left.order == right.order)
+    (left.most_inside == right.most_inside
+        && (left.reentry == right.reentry && left.order == right.order))
         && same_step_bounds(left, right)
         && (left.progress == right.progress && left.bounds == right.bounds)
 }

@@ -3,9 +3,8 @@
 ghost use Rattle.std.specs.Prelude.{◌≡◌, ◌<◌, ◌≤◌, ◌-◌, ◌^◌, drop, length, slice_get, OnOk, IfOk, IfErr, Some, None, true, false, ◌||◌, codes, position};
 ghost use Rattle.std.specs.Option.{option_copied};
 ghost use Rattle.algorithms.specs.declared.fault.ReadFault.TheVariants.{BadForm as NoForm};
-ghost use Rattle.algorithm_texts.specs.Fronts.{past_word, past_sign, is_over, is_the_word, letters_of, named_by, deed_words, members_words, deed_said, members_said, past_withdraw, ends_value, open_after, ends_here, value_size, value_tokens, value_rest, begins_no_simple};
+ghost use Rattle.algorithm_texts.specs.Fronts.{past_word, past_sign, is_over, is_the_word, letters_of, number_in, named_by, deed_words, members_words, deed_said, members_said, past_withdraw, ends_value, open_after, ends_here, value_size, value_tokens, value_rest, begins_no_simple};
 ghost use Rattle.algorithm_texts.specs.LineFaults.{undone_fault};
-ghost use Rattle.algorithm_texts.specs.TextDrafts.{number_in};
 ghost use Rattle.algorithm_texts.specs.Tokens.{value_of_name};
 
 use crate::tokens::{LineWord, Sign, Token, is_sign, is_word, spells};

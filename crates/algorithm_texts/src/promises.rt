@@ -4,7 +4,7 @@ ghost use Rattle.std.specs.Prelude.{◌≡◌, Some, None, MatchResult};
 ghost use Rattle.std.specs.List.{slice_split};
 ghost use Rattle.algorithms.specs.declared.fault.ReadFault.TheVariants.{BadForm as NoForm};
 ghost use Rattle.algorithm_texts.specs.LineFaults.{promises_fault};
-ghost use Rattle.algorithm_texts.specs.TextDrafts.{promise_at_front, read_within, new_bound, with_exit, with_recovery, with_doorway, with_freedom, with_bounds, with_promise, with_promises, is_comma, read_more, read_further_promises, read_promises};
+ghost use Rattle.algorithm_texts.specs.TextDrafts.{promise_at_front, read_within, new_bound, with_exit, with_recovery, with_doorway, with_freedom, with_bounds, with_promise, with_promises, is_comma, read_more, read_most_inside, read_further_promises, read_promises};
 
 use crate::parts::{after, after_sign, after_word, check_end, number_at};
 use crate::tokens::{Sign, Token, Tokens, is_sign, is_word};
@@ -176,15 +176,30 @@ fn read_more(promises: Promises, tokens: &[Token]) -> Result<Promises, ReadFault
     with_promises(promises, after_sign(tokens, Sign::Comma)?)
 }
 
-/// Reads what follows `exclusion`: `reentry` and `order`, each after a comma, in this order, where they are said, and the further
-/// promises.
-fn further_promises(tokens: &[Token]) -> Result<Promises, ReadFault>
-    ensures { MatchResult result (λ p. read_further_promises tokens.now ≡ Some p)
-        (λ fault. (read_further_promises tokens.now ≡ None) × (fault ≡ NoForm)) }
+/// Reads the most processes inside at once, where it is said: `of NUMBER`. Without it there is one.
+fn most_inside(tokens: &[Token]) -> Result<(u64, &[Token]), ReadFault>
+    ensures { MatchResult result (λ most. read_most_inside tokens.now ≡ Some (most.0, most.1.now))
+        (λ fault. (read_most_inside tokens.now ≡ None) × (fault ≡ NoForm)) }
+{
+    if !is_word(tokens.first(), b"of") {
+        return Ok((1, tokens));
+    }
+    let Some(most) = number_at(tokens.get(1)) else {
+        return Err(ReadFault::BadForm);
+    };
+    Ok((most, after(tokens, 2)))
+}
+
+/// Reads what follows `exclusion` and its number: `reentry` and `order`, each after a comma, in this order, where they are said, and
+/// the further promises.
+fn further_promises(most_inside: u64, tokens: &[Token]) -> Result<Promises, ReadFault>
+    ensures { MatchResult result (λ p. read_further_promises most_inside tokens.now ≡ Some p)
+        (λ fault. (read_further_promises most_inside tokens.now ≡ None) × (fault ≡ NoForm)) }
 {
     let (reentry, rest) = promise_at_front(tokens, b"reentry");
     let (order, rest) = promise_at_front(rest, b"order");
     let first = Promises {
+        most_inside,
         reentry,
         order,
         exit: None,
@@ -196,7 +211,7 @@ fn further_promises(tokens: &[Token]) -> Result<Promises, ReadFault>
     read_more(first, rest)
 }
 
-/// Reads the second line: `promises exclusion`, and what follows it.
+/// Reads the second line: `promises exclusion`, with `of NUMBER` where it is said, and what follows it.
 pub fn promises(line: &Tokens) -> Result<Promises, ReadFault>
     ensures { MatchResult result (λ p. read_promises line.now.all.items ≡ Some p)
         (λ fault. (read_promises line.now.all.items ≡ None) × (fault ≡ promises_fault line.now.all.items)) }
@@ -205,5 +220,6 @@ pub fn promises(line: &Tokens) -> Result<Promises, ReadFault>
         Ok(rest) => rest,
         Err(_) => return Err(ReadFault::NoHeader),
     };
-    further_promises(after_word(rest, b"exclusion")?)
+    let (most_inside, rest) = most_inside(after_word(rest, b"exclusion")?)?;
+    further_promises(most_inside, rest)
 }

@@ -61,9 +61,18 @@ fn put_progress(text: &mut TextBuilder, progress: Option<ProgressPromise>) {
     }
 }
 
+/// Writes how many processes may be inside at once, where that is not one.
+fn put_most_inside(text: &mut TextBuilder, most_inside: u64) {
+    if most_inside != 1 {
+        text.put(" of ");
+        text.put_number(most_inside);
+    }
+}
+
 /// Writes what is promised.
 fn put_promises(text: &mut TextBuilder, promises: Promises) {
     text.put("promises exclusion");
+    put_most_inside(text, promises.most_inside);
     text.put_when(promises.reentry, ", reentry");
     text.put_when(promises.order, ", order");
     put_step_bound(text, ", exit", promises.exit);

@@ -17,9 +17,11 @@ pub enum ProgressPromise {
     StarvationFreedom,
 }
 
-/// What an algorithm promises beside mutual exclusion.
+/// What an algorithm promises.
 #[derive(Clone, Copy, Debug, PartialEq, Eq)]
 pub struct Promises {
+    /// The most processes inside at once, those that crashed there counted: k-exclusion. 1 is mutual exclusion.
+    pub most_inside: u64,
     /// Who crashed inside is the next one inside.
     pub reentry: bool,
     /// First come, first served.

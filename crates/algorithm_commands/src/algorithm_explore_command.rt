@@ -303,9 +303,9 @@ fn search_both<S: Screen, W: Sink>(
 }
 
 /// Runs `explore --algorithm`: reads the algorithm from its text, searches its schedules, and writes the schedule of fewest moves that
-/// goes wrong, or that there is none, and then, where the text promises progress and the moves have no bound, what `--starving` finds;
-/// with `--stuck` also one to a stuck state, and with `--starving` one in which a process starves,
-/// both in this thread. Progress is shown on the screen. `Algorithm`: the text's fault. `BadSize`: the algorithm is not for this
+/// goes wrong or, where the text promises `bounds`, ends with a move to a value out of range; or that there is none, and then, where the
+/// text promises progress and the moves have no bound, what `--starving` finds. With `--stuck` it writes also one to a stuck state, and
+/// with `--starving` one in which a process starves, both in this thread. Progress is shown on the screen. `Algorithm`: the text's fault. `BadSize`: the algorithm is not for this
 /// number of processes, or the limit is outside its range. `TooManyStates`: the search reached more states than it may keep.
 pub fn algorithm_explore_command<T: Threads + Sync, S: Screen, W: Sink>(
     rt: &T,

@@ -26,7 +26,7 @@ use Rattle.algorithm_lab.specs.declared.run_report.TextReport.TheVariants.{Did}
 use Rattle.algorithm_lab.proofs.BakeryPlaces.{noted_by}
 
 abbrev pub promised : Promises
-promised = record { reentry = true; order = true; exit = None; recovery = None; doorway = None; progress = None; bounds = false }
+promised = record { most_inside = 1; reentry = true; order = true; exit = None; recovery = None; doorway = None; progress = None; bounds = false }
 
 -- no deed, or one of a step of p
 abbrev pub OfStep : ℕ → Option Outer → Type 0
@@ -95,7 +95,7 @@ phase_kept a p q (Some (outers.Quit r)) of ne = put_other a.phase r _ q (λ e. n
 -- ---- a judge of the lock alone
 
 abbrev pub judge_at : ℕ → Abstract → State
-judge_at n a = record { procs = n; cap = 1; lock = a; mail = nothing_shown }
+judge_at n a = record { procs = n; cap = 1; most_inside = 1; lock = a; mail = nothing_shown }
 
 -- the deeds of a move
 abbrev pub deeds_said : Said → List Deed

@@ -7,21 +7,25 @@ use Rattle.schedule.specs.declared.lines.line.Line.{Line}
 use Rattle.schedule.specs.declared.replays.verdict.Verdict.{Verdict}
 use Rattle.schedule.specs.declared.replays.verdict.Verdict.TheVariants.{Fine}
 use Rattle.schedule.proofs.WorldRuns.{legal_is_fine}
+use Rattle.schedule.specs.Verdicts.{verdict_on}
+use Rattle.judge.specs.Table.{empty_state_of}
 use Rattle.schedule.specs.Transitions.{Fell, Took}
 use Rattle.algorithms.specs.FirstWords.{from_zeros}
 use Rattle.algorithms.specs.Worlds.{advance, new_refusal}
 use Rattle.algorithms.specs.declared.algorithm.Algorithm.{Algorithm}
+use Rattle.algorithms.specs.declared.algorithm.Promises.{Promises}
 use Rattle.algorithms.specs.declared.algorithm.AlgorithmCall.{AlgorithmCall}
 use Rattle.algorithms.specs.declared.refusal.AlgorithmRefusal.{AlgorithmRefusal}
 use Rattle.algorithm_lab.specs.Bakery.{IsBakery}
 use Rattle.algorithm_lab.specs.Monitors.{IsReportedPart, MonitorState, EventPart, first_monitor, left_by, part_of_start, refusal_by, start_on, step_on, crash_on}
 use Rattle.algorithm_lab.specs.Moves.{moved_by}
 use Rattle.algorithm_lab.specs.Replays.{run_unless, run_of, ReplaysAlgorithm}
-use Rattle.algorithm_lab.specs.Reports.{verdict_of}
+use Rattle.algorithm_lab.specs.Reports.{first_judge, verdict_of}
 use Rattle.algorithm_lab.specs.Sections.{bounds_steps}
 use Rattle.algorithm_lab.proofs.NoExcess.{plain_verdict, run_plain}
 use Rattle.algorithm_lab.specs.Runs.{AlgorithmRun, deeds_of, call_of, event_reports, line_on, monitor_transitions, run_on, said_by, start_by, start_part}
 use Rattle.algorithm_lab.specs.declared.run_report.TextReport.{TextReport}
+use Rattle.algorithm_lab.proofs.Restarts.{run_leaves}
 use Rattle.algorithm_lab.proofs.Runs.{crash_appended, deeds_append, so_of_line, so_of_run, step_appended}
 use Rattle.algorithm_lab.specs.declared.monitor_event.MonitorStep.{MonitorStep}
 use Rattle.algorithm_lab.specs.declared.replay_fault.AlgorithmReplayFault.{AlgorithmReplayFault}
@@ -77,27 +81,35 @@ module _ (a : Algorithm) (b : IsBakery a) (n limit : ℕ) (most : n ≤ 64) (hig
 
   -- what is said of a run from a new world
   pub record IsFine (run : AlgorithmRun (ℕ × RunRefusal)) : Type 0 where
-    pub verdict : verdict_of n run.reports ≡ Fine
+    pub verdict : verdict_of a n run.reports ≡ Fine
     pub procs : run.left.world.procs ≡ n
+    pub algorithm : run.left.world.algorithm ≡ a
 
   pub new_is_fine : (all : List Line) → IsFine (run_on 2 (first_monitor (from_zeros a) n limit) all)
   new_is_fine all =
       let led = run_fits 2 (first_monitor (from_zeros a) n limit) all nobody (first_beside a b n limit most high) in
       let reports = (run_on 2 (first_monitor (from_zeros a) n limit) all).reports in
-      let plain = plain_verdict n reports (run_plain 2 (first_monitor (from_zeros a) n limit) all (ap bounds_steps b.promises, b.claims)) in
-      record { verdict = plain ∙ legal_is_fine 1 (judge_at n nobody) (judge_at n led.lock) _ led.judged; procs = ap (λ (m : MonitorState). m.world.procs) led.beside.is }
+      let of_one : first_judge a n ≡ judge_at n nobody = ap (λ k. empty_state_of k n 1) (ap (λ (p : Promises). p.most_inside) b.promises) in
+      let plain = plain_verdict a n reports (run_plain 2 (first_monitor (from_zeros a) n limit) all (ap bounds_steps b.promises, b.claims)) in
+      record {
+        verdict = plain ∙ ap (λ first. verdict_on first (deeds_of reports)) of_one ∙ legal_is_fine 1 (judge_at n nobody) (judge_at n led.lock) _ led.judged;
+        procs = ap (λ (m : MonitorState). m.world.procs) led.beside.is;
+        algorithm = ap (λ (m : MonitorState). m.world.algorithm) (run_leaves 2 (first_monitor (from_zeros a) n limit) all);
+      }
 
 -- the verdict of a replay, and the processes of its world
-pub fine : (a : Algorithm) → IsBakery a → (n limit : ℕ) (all : List Line) → (verdict_of n (run_of (from_zeros a) n limit all).reports ≡ Fine) × ((run_of (from_zeros a) n limit all).left.world.procs ≡ n)
+pub fine : (a : Algorithm) → IsBakery a → (n limit : ℕ) (all : List Line) → (verdict_of a n (run_of (from_zeros a) n limit all).reports ≡ Fine) × ((run_of (from_zeros a) n limit all).left.world.procs ≡ n)
+    × ((run_of (from_zeros a) n limit all).left.world.algorithm ≡ a)
 fine a b n limit all = by (new_refusal (from_zeros a) n limit) refl
   where
     by : (o : Option AlgorithmRefusal) → new_refusal (from_zeros a) n limit ≡ o
-        → (verdict_of n (run_unless o (first_monitor (from_zeros a) n limit) all).reports ≡ Fine) × ((run_unless o (first_monitor (from_zeros a) n limit) all).left.world.procs ≡ n)
-    by None may = let low = fitting a n limit may in let h = new_is_fine a b n limit low.0 low.1 all in (h.verdict, h.procs)
-    by (Some e) may = (refl, refl)
+        → (verdict_of a n (run_unless o (first_monitor (from_zeros a) n limit) all).reports ≡ Fine) × ((run_unless o (first_monitor (from_zeros a) n limit) all).left.world.procs ≡ n)
+        × ((run_unless o (first_monitor (from_zeros a) n limit) all).left.world.algorithm ≡ a)
+    by None may = let low = fitting a n limit may in let h = new_is_fine a b n limit low.0 low.1 all in (h.verdict, h.procs, h.algorithm)
+    by (Some e) may = (refl, refl, refl)
 
 pub replayed_fine : (a : Algorithm) → IsBakery a → (n limit : ℕ) (all : List Line) (before now : Tape) (answer : Result Verdict AlgorithmReplayFault) → ReplaysAlgorithm before now (run_of (from_zeros a) n limit all) answer → IfOk answer (λ verdict. verdict ≡ Fine)
 replayed_fine a b n limit all before now (Err fault) replays = tt
 replayed_fine a b n limit all before now (Ok verdict) replays =
     let h = fine a b n limit all in
-    replays.2 ∙ ap (λ k. verdict_of k (run_of (from_zeros a) n limit all).reports) h.1 ∙ h.0
+    replays.2 ∙ (λ i. verdict_of (h.2 i) (h.1 i) (run_of (from_zeros a) n limit all).reports) ∙ h.0

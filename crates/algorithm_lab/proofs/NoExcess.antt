@@ -2,7 +2,6 @@
 use Rattle.std.proofs.Common.{◌≡◌, ℕ, Bool, true, false, ◌||◌, if◌then◌else◌, List, [], ◌∷◌, ◌++◌, Option, Some, None, Result, Ok, Err, refl, sym, ap, ◌∙◌}
 use Rattle.std.specs.List.{list_any}
 use Rattle.std.proofs.lemmas.List.Folds.{list_any-append}
-use Rattle.judge.specs.Table.{empty_state}
 use Rattle.rmecore.specs.Simulated.{one_more}
 use Rattle.rmecore.specs.declared.outer.Outer.TheVariants as outers
 use Rattle.rmecore.specs.declared.phase.Phase.{Phase}
@@ -16,6 +15,7 @@ use Rattle.algorithms.specs.Worlds.{AlgorithmWorldState, advance, crash, new_ref
 use Rattle.algorithms.specs.declared.access.Advanced.{Advanced}
 use Rattle.algorithms.specs.declared.algorithm.AlgorithmCall.{AlgorithmCall}
 use Rattle.algorithms.specs.declared.algorithm.Promises.{Promises}
+use Rattle.algorithms.specs.declared.algorithm.Algorithm.{Algorithm}
 use Rattle.algorithms.specs.declared.first_values.InitializedAlgorithm.{InitializedAlgorithm}
 use Rattle.algorithms.specs.declared.line.AlgorithmDeed.{AlgorithmDeed}
 use Rattle.algorithms.specs.declared.line.AlgorithmDeed.TheVariants as deeds
@@ -25,7 +25,7 @@ use Rattle.algorithm_lab.specs.Claims.{or_line}
 use Rattle.algorithm_lab.specs.Heard.{deeds_heard, doorway_end_reports, doorway_reports, entered_out_of_order, given_up, heard_if, heard_of, heard_of_crash, phase_if}
 use Rattle.algorithm_lab.specs.Monitors.{EventPart, MonitorState, answer_reports, broken_between, broken_reports, counted_steps, crash_on, excess_of, excess_reports, first_monitor, left_by, monitor_at_beginning, monitor_left, part_of, part_of_start, part_of_step, phase_of, place_in, reports_by, start_on, step_on, then_in}
 use Rattle.algorithm_lab.specs.Replays.{run_of, run_unless}
-use Rattle.algorithm_lab.specs.Reports.{is_against, or_verdict, verdict_of, is_breach, promises_verdict}
+use Rattle.algorithm_lab.specs.Reports.{is_against, first_judge, or_verdict, verdict_of, is_breach, promises_verdict}
 use Rattle.algorithm_lab.specs.Runs.{call_of, deeds_of, event_reports, line_on, monitor_transitions, run_on, said_by, crash_said_by}
 use Rattle.algorithm_lab.specs.Sections.{bounds_steps, excess, section_at}
 use Rattle.algorithm_lab.specs.declared.monitor_event.MonitorStep.{MonitorStep}
@@ -227,15 +227,15 @@ pub or_fine : (v : Verdict) → or_verdict v Fine ≡ v
 or_fine Fine = refl
 or_fine (Against at fault) = refl
 
-pub plain_verdict : (procs : ℕ) (reports : List TextReport) → IsPlain reports → verdict_of procs reports ≡ verdict_on (empty_state procs 1) (deeds_of reports)
-plain_verdict procs reports plain =
-    let v = verdict_on (empty_state procs 1) (deeds_of reports) in
+pub plain_verdict : (a : Algorithm) (procs : ℕ) (reports : List TextReport) → IsPlain reports → verdict_of a procs reports ≡ verdict_on (first_judge a procs) (deeds_of reports)
+plain_verdict a procs reports plain =
+    let v = verdict_on (first_judge a procs) (deeds_of reports) in
     ap (or_verdict v) (steps_fine 1 reports plain) ∙ or_fine v
 
 -- on a new world
 pub judged_by_deeds : (a : InitializedAlgorithm) (procs limit : ℕ) (lines : List Line) → bounds_steps a.algorithm.promises ≡ false → a.algorithm.claims.items ≡ []
-    → verdict_of procs (run_of a procs limit lines).reports ≡ verdict_on (empty_state procs 1) (deeds_of (run_of a procs limit lines).reports)
-judged_by_deeds a procs limit lines none unclaimed = plain_verdict procs (run_of a procs limit lines).reports (by (new_refusal a procs limit))
+    → verdict_of a.algorithm procs (run_of a procs limit lines).reports ≡ verdict_on (first_judge a.algorithm procs) (deeds_of (run_of a procs limit lines).reports)
+judged_by_deeds a procs limit lines none unclaimed = plain_verdict a.algorithm procs (run_of a procs limit lines).reports (by (new_refusal a procs limit))
   where
     by : (o : Option AlgorithmRefusal) → IsPlain (run_unless o (first_monitor a procs limit) lines).reports
     by None = run_plain 2 (first_monitor a procs limit) lines (none, unclaimed)

@@ -38,7 +38,7 @@ text_of run = text_by run.refused run
 
 -- this is how a run ends: with the verdict on what it reports, or with the line that is refused
 abbrev pub HasEnd : AlgorithmRun (ℕ × RunRefusal) → Result Verdict (ℕ × RunRefusal) → Type 0
-HasEnd run (Ok verdict) = (run.refused ≡ None) × (verdict ≡ verdict_of run.left.world.procs run.reports)
+HasEnd run (Ok verdict) = (run.refused ≡ None) × (verdict ≡ verdict_of run.left.world.algorithm run.left.world.procs run.reports)
 HasEnd run (Err refusal) = run.refused ≡ Some refusal
 
 -- what is answered of a run that has ended so
@@ -53,7 +53,7 @@ IsReplayText run text ended = (text ≡ text_of run) × HasEnd run ended
 -- this text of a run is written and its verdict answered, or the reason why not. A sink that fails has taken a beginning of the
 -- text, and has failed once more
 abbrev pub WritesRunText : Tape → Tape → List ℕ → AlgorithmRun (ℕ × RunRefusal) → Result Verdict AlgorithmReplayFault → Type 0
-WritesRunText before now text run (Ok verdict) = Writes before now text × (run.refused ≡ None) × (verdict ≡ verdict_of run.left.world.procs run.reports)
+WritesRunText before now text run (Ok verdict) = Writes before now text × (run.refused ≡ None) × (verdict ≡ verdict_of run.left.world.algorithm run.left.world.procs run.reports)
 WritesRunText before now text run (Err (faults.Refused line refusal)) = Writes before now text × (run.refused ≡ Some (line, refusal))
 WritesRunText before now text run (Err faults.Write) = Begins before.taken now.taken text × (now.failures ≡ min (before.failures + 1) (2 ^ 64 - 1))
 WritesRunText before now text run (Err faults.OutOfMemory) = now ≡ before

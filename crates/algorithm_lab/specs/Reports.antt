@@ -3,7 +3,7 @@ use Rattle.std.specs.Prelude.{ℕ, List, [], ◌∷◌, ◌++◌, take, codes, O
 use Rattle.std.specs.List.{flat_map}
 use Rattle.std.specs.Fmt.{decimal}
 use Rattle.std.specs.declared.alloc.Global.{Global}
-use Rattle.judge.specs.Table.{empty_state}
+use Rattle.judge.specs.Table.{State, empty_state_of}
 use Rattle.redomail.specs.declared.deed.Deed.TheVariants.{Outer}
 use Rattle.rmecore.specs.Simulated.{one_more}
 use Rattle.rmecore.specs.declared.fault.Fault.TheVariants.{BrokenClaim}
@@ -22,7 +22,8 @@ use Rattle.algorithm_lab.specs.declared.run_report.TextReport.TheVariants.{Did, 
 use Rattle.algorithm_lab.specs.declared.section.BoundedSection.{BoundedSection}
 use Rattle.algorithm_lab.specs.declared.section.BoundedSection.TheVariants.{Exit, Recovery, Doorway}
 use Rattle.algorithm_lab.specs.Sections.{excess_fault}
-use Rattle.algorithm_lab.specs.Runs.{deeds_of}
+use Rattle.algorithm_lab.specs.Runs.{AlgorithmRun, deeds_of}
+use Rattle.algorithm_lab.specs.declared.run_refusal.RunRefusal.{RunRefusal}
 
 -- the words of an answer. One without words, or that is not among those of the algorithm, is `done`
 abbrev pub words_of_text : List ℕ → List ℕ
@@ -88,14 +89,22 @@ abbrev pub or_verdict : Verdict → Verdict → Verdict
 or_verdict Fine other = other
 or_verdict (Against at fault) other = Against at fault
 
+-- the state of a judge of a new lock of the algorithm, which lets as many be inside as it promises at most
+abbrev pub first_judge : Algorithm → ℕ → State
+first_judge a procs = empty_state_of a.promises.most_inside procs 1
+
 -- the verdict on what is reported: that of a judge of a new lock on the deeds, and where it allows all of them, that on own steps
 -- and claims
-abbrev pub verdict_of : ℕ → List TextReport → Verdict
-verdict_of procs reports = or_verdict (verdict_on (empty_state procs 1) (deeds_of reports)) (promises_verdict 1 reports)
+abbrev pub verdict_of : Algorithm → ℕ → List TextReport → Verdict
+verdict_of a procs reports = or_verdict (verdict_on (first_judge a procs) (deeds_of reports)) (promises_verdict 1 reports)
+
+-- the verdict on a run of this many processes
+abbrev pub run_verdict : ℕ → AlgorithmRun (ℕ × RunRefusal) → Verdict
+run_verdict procs run = verdict_of run.left.world.algorithm procs run.reports
 
 -- the end of the report of a run that reports this, and leaves this world: the shared words, and the verdict
 abbrev pub report_end : AlgorithmWorldState → List TextReport → List ℕ
-report_end w reports = words_text w.procs w.limit w.words 0 w.algorithm.declarations.items ++ verdict_line (verdict_of w.procs reports)
+report_end w reports = words_text w.procs w.limit w.words 0 w.algorithm.declarations.items ++ verdict_line (verdict_of w.algorithm w.procs reports)
 
 -- its report
 abbrev pub report_text : AlgorithmWorldState → List TextReport → List ℕ

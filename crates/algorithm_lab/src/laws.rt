@@ -15,7 +15,6 @@ ghost use Rattle.rmecore.specs.declared.phase.Phase.{Phase as PhaseOf};
 ghost use Rattle.rmecore.specs.declared.refusal.Refusal.{Refusal};
 ghost use Rattle.schedule.specs.Reports.{line_of_report as lock_line};
 ghost use Rattle.schedule.specs.Runs.{Answered as LockAnswered, run_on as lock_run_on};
-ghost use Rattle.judge.specs.Table.{empty_state};
 ghost use Rattle.schedule.specs.Tapes.{Tape};
 ghost use Rattle.schedule.specs.Verdicts.{verdict_on};
 ghost use Rattle.schedule.specs.declared.lines.line.Line.{Line as LineOf};
@@ -34,7 +33,7 @@ ghost use Rattle.algorithm_lab.specs.Bakery.{IsBakery};
 ghost use Rattle.algorithm_lab.specs.LockLines.{IsOfLock, SameRun, answer_of, image_of, lock_behaviour};
 ghost use Rattle.algorithm_lab.specs.Moves.{ScheduleMove, Start, Step, Crash, Tells, all_said, left_by, core_call, answer_number, deed_report, refused_outcome, lock_move, text_move, SameWords};
 ghost use Rattle.algorithm_lab.specs.Replays.{ReplaysAlgorithm, run_of};
-ghost use Rattle.algorithm_lab.specs.Reports.{line_of_report, verdict_of};
+ghost use Rattle.algorithm_lab.specs.Reports.{first_judge, line_of_report, verdict_of};
 ghost use Rattle.algorithm_lab.specs.Runs.{deeds_of, run_on};
 ghost use Rattle.algorithm_lab.specs.Sections.{bounds_steps};
 ghost use Rattle.algorithm_lab.specs.declared.replay_fault.AlgorithmReplayFault.{AlgorithmReplayFault};
@@ -92,7 +91,7 @@ pub fn the_text_plays_as_the_lock()
 /// as one with a call that the text has not. `replayed` says it of what `replay_algorithm` answers.
 pub fn the_text_is_never_found_out()
     ensures judged { (a : Algorithm) (n limit : ℕ) (lines : List LineOf) → IsBakery a
-        → verdict_of n (run_of (from_zeros a) n limit lines).reports ≡ Fine }
+        → verdict_of a n (run_of (from_zeros a) n limit lines).reports ≡ Fine }
     ensures replayed { (a : Algorithm) (n limit : ℕ) (lines : List LineOf) (before now : Tape)
         (answer : Result VerdictOf AlgorithmReplayFault) → IsBakery a
         → ReplaysAlgorithm before now (run_of (from_zeros a) n limit lines) answer
@@ -102,8 +101,8 @@ pub fn the_text_is_never_found_out()
 /// A text that promises no bound on own steps, and claims that nothing never holds, is judged by its deeds alone, on every schedule.
 pub fn without_bounds_only_deeds_count()
     ensures { (a : InitializedOf) (n limit : ℕ) (lines : List LineOf) → bounds_steps a.algorithm.promises ≡ false
-        → a.algorithm.claims.items ≡ [] → verdict_of n (run_of a n limit lines).reports
-        ≡ verdict_on (empty_state n 1) (deeds_of (run_of a n limit lines).reports) }
+        → a.algorithm.claims.items ≡ [] → verdict_of a.algorithm n (run_of a n limit lines).reports
+        ≡ verdict_on (first_judge a.algorithm n) (deeds_of (run_of a n limit lines).reports) }
 {}
 
 /// Where a monitor does not find a claim of the text broken, its condition holds of no different processes of that state.

@@ -10,6 +10,7 @@ ghost use Rattle.algorithm_lab.specs.Runs.{deeds_of};
 ghost use Rattle.algorithm_lab.specs.Reports.{is_breach, or_verdict, promises_verdict, verdict_of};
 
 use crate::run_report::TextReport;
+use algorithms::Algorithm;
 use judge::Judge;
 use redomail::Deed;
 use rmecore::Fault;
@@ -96,12 +97,18 @@ fn judge_reports(judge: &mut Judge, reports: &[TextReport]) -> Verdict
     running_verdict.verdict()
 }
 
-/// The verdict on what a run reports: that of a judge of a new lock on its deeds, and where it allows all of them, that on own
-/// steps and claims.
-pub fn verdict_of(alloc: Global, procs: u64, reports: &[TextReport]) -> Result<Verdict, AllocError>
-    ensures { IfOk result (λ verdict. verdict ≡ verdict_of procs reports.now) }
+/// The verdict on what a run of the algorithm reports: that of a judge of a new lock on its deeds, and where it allows all of them,
+/// that on own steps and claims.
+pub fn verdict_of(
+    alloc: Global,
+    algorithm: &Algorithm,
+    procs: u64,
+    reports: &[TextReport],
+) -> Result<Verdict, AllocError>
+    ensures { IfOk result (λ verdict. verdict ≡ verdict_of algorithm.now procs reports.now) }
 {
-    let Ok(mut judge) = Judge::new(alloc, procs, 1) else {
+    let most_inside = algorithm.promises.most_inside;
+    let Ok(mut judge) = Judge::of_exclusion(alloc, most_inside, procs, 1) else {
         return Err(AllocError);
     };
     let judged = judge_reports(&mut judge, reports);

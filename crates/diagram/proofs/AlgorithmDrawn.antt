@@ -25,7 +25,7 @@ pub text_same : (style : Style) (shown head : Head) (a : Algorithm) (m left : Mo
 text_same style shown head a m left lines rows verdict refused named is same = rw (named, same, is.2, is.0, is.1, is.3) refl
 
 -- what is answered is so
-pub draws : (t u : Tape) (text : List ℕ) (run : AlgorithmRun (ℕ × RunRefusal)) (verdict : Verdict) (refused : Option (ℕ × RunRefusal)) (r : Result (Unit {0}) ReplayFault) → WritesText t u text r → refused ≡ run.refused → verdict ≡ verdict_of run.left.world.procs run.reports
+pub draws : (t u : Tape) (text : List ℕ) (run : AlgorithmRun (ℕ × RunRefusal)) (verdict : Verdict) (refused : Option (ℕ × RunRefusal)) (r : Result (Unit {0}) ReplayFault) → WritesText t u text r → refused ≡ run.refused → verdict ≡ verdict_of run.left.world.algorithm run.left.world.procs run.reports
     → DrawsRun t u text run (answer_by r refused verdict)
 draws t u text run verdict None (Ok x) h why ruled = (h, sym why, ruled)
 draws t u text run verdict (Some (line, refusal)) (Ok x) h why ruled = (h, sym why)

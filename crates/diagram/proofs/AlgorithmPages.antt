@@ -47,14 +47,14 @@ rows_kept rows (e ∷ es) =
 
 -- the rows of a recording are those of its run's drawing
 pub drawing_is : (m left : MonitorState) (lines : List Line) (events : List MonitorEvent) (reports : List TextReport) (refused : Option (ℕ × RunRefusal)) (w : AlgorithmWorldState)
-    (rows : List AlgorithmRow) (verdict : Verdict) → IsRecording m left lines events reports refused → w ≡ left.world → rows ≡ with_kept [] events → verdict ≡ verdict_of w.procs reports
+    (rows : List AlgorithmRow) (verdict : Verdict) → IsRecording m left lines events reports refused → w ≡ left.world → rows ≡ with_kept [] events → verdict ≡ verdict_of w.algorithm w.procs reports
     → IsDrawing m lines rows verdict refused left
 drawing_is m left lines events reports refused w rows verdict is world drawn ruled =
     let run = run_on 2 m lines in (
       drawn ∙ ap (with_kept []) is.events_are ∙ rows_kept [] (run_by monitor_transitions itself 2 m lines).reports ∙ ap (with_events []) (sym (run_events m lines)),
       is.refused_is,
       is.stands,
-      ruled ∙ ap (λ (s : AlgorithmWorldState). verdict_of s.procs reports) (world ∙ ap (λ (s : MonitorState). s.world) is.stands) ∙ ap (verdict_of run.left.world.procs) is.reports_are,
+      ruled ∙ ap (λ (s : AlgorithmWorldState). verdict_of s.algorithm s.procs reports) (world ∙ ap (λ (s : MonitorState). s.world) is.stands) ∙ ap (verdict_of run.left.world.algorithm run.left.world.procs) is.reports_are,
     )
 
 -- the page was made of its drawing and its lines

@@ -60,7 +60,7 @@ run_events m lines = ap (λ (part : Fragment AlgorithmEvent MonitorState (ℕ ×
 
 -- the lines of a schedule were played, and drawn
 pub draws_run : (first now : AlgorithmRows) (m : MonitorState) (lines : List Line) (left : MonitorState) (refused : Option (ℕ × RunRefusal)) (verdict : Verdict) → first.rows.items ≡ [] → first.reports.items ≡ []
-    → PlaysAll algorithm_row_effects first now (run_by monitor_transitions itself 2 m lines) left refused → verdict ≡ verdict_of left.world.procs now.reports.items → IsDrawing m lines now.rows.items verdict refused left
+    → PlaysAll algorithm_row_effects first now (run_by monitor_transitions itself 2 m lines) left refused → verdict ≡ verdict_of left.world.algorithm left.world.procs now.reports.items → IsDrawing m lines now.rows.items verdict refused left
 draws_run first now m lines left refused verdict no_rows no_reports plays ruled =
     let is = run_reported monitor_transitions event_reports 2 m lines in
     let stands : left ≡ (run_on 2 m lines).left = plays.stands ∙ ap (λ (run : AlgorithmRun (ℕ × RunRefusal)). run.left) (sym is) in
@@ -71,5 +71,5 @@ draws_run first now m lines left refused verdict no_rows no_reports plays ruled 
           ∙ ap (with_events []) (sym (run_events m lines)),
       sym (ap (λ (run : AlgorithmRun (ℕ × RunRefusal)). run.refused) is ∙ plays.refused_is),
       stands,
-      ruled ∙ ap (λ (s : MonitorState). verdict_of s.world.procs now.reports.items) stands ∙ ap (verdict_of (run_on 2 m lines).left.world.procs) reports,
+      ruled ∙ ap (λ (s : MonitorState). verdict_of s.world.algorithm s.world.procs now.reports.items) stands ∙ ap (verdict_of (run_on 2 m lines).left.world.algorithm (run_on 2 m lines).left.world.procs) reports,
     )

@@ -48,7 +48,7 @@ objects_of_run w m left lines events reports refused is =
 
 -- ---- a text of a run that is recorded
 
-outcome_is : (run : AlgorithmRun (ℕ × RunRefusal)) (refused : Option (ℕ × RunRefusal)) (verdict : Verdict) → refused ≡ run.refused → verdict ≡ verdict_of run.left.world.procs run.reports
+outcome_is : (run : AlgorithmRun (ℕ × RunRefusal)) (refused : Option (ℕ × RunRefusal)) (verdict : Verdict) → refused ≡ run.refused → verdict ≡ verdict_of run.left.world.algorithm run.left.world.procs run.reports
     → HasEnd run (run_outcome refused verdict)
 outcome_is run None verdict is ruled = (sym is, ruled)
 outcome_is run (Some refusal) verdict is ruled = sym is
@@ -56,7 +56,7 @@ outcome_is run (Some refusal) verdict is ruled = sym is
 module _ (steps_text : AlgorithmWorldState → List AlgorithmEvent → List ℕ) (rest_text : Option (ℕ × RunRefusal) → AlgorithmWorldState → List TextReport → List ℕ) where
   pub text_made : (m left : MonitorState) (lines : List Line) (events : List MonitorEvent) (reports : List TextReport) (refused : Option (ℕ × RunRefusal)) (w : AlgorithmWorldState)
       (mid new : List ℕ) (ended : Result Verdict (ℕ × RunRefusal)) → IsRecording m left lines events reports refused → w ≡ left.world → mid ≡ steps_text w (events_on m lines)
-      → new ≡ mid ++ rest_text refused w reports → ended ≡ run_outcome refused (verdict_of w.procs reports) → IsRunText (text_by_steps steps_text rest_text) m lines new ended
+      → new ≡ mid ++ rest_text refused w reports → ended ≡ run_outcome refused (verdict_of w.algorithm w.procs reports) → IsRunText (text_by_steps steps_text rest_text) m lines new ended
   text_made m left lines events reports refused w mid new ended is world steps rest ends =
       let run = run_on 2 m lines in
       let same : w ≡ run.left.world = world ∙ ap (λ (s : MonitorState). s.world) is.stands in (
@@ -65,14 +65,14 @@ module _ (steps_text : AlgorithmWorldState → List AlgorithmEvent → List ℕ)
             ∙ ap (λ (o : Option (ℕ × RunRefusal)). steps_text run.left.world (events_on m lines) ++ rest_text o run.left.world reports) is.refused_is
             ∙ ap (λ (ts : List TextReport). steps_text run.left.world (events_on m lines) ++ rest_text run.refused run.left.world ts) is.reports_are,
         subst (λ (r : Result Verdict (ℕ × RunRefusal)). HasEnd run r) (sym ends)
-            (outcome_is run refused (verdict_of w.procs reports) is.refused_is
-            (ap (λ (s : AlgorithmWorldState). verdict_of s.procs reports) same ∙ ap (verdict_of run.left.world.procs) is.reports_are)),
+            (outcome_is run refused (verdict_of w.algorithm w.procs reports) is.refused_is
+            (ap (λ (s : AlgorithmWorldState). verdict_of s.algorithm s.procs reports) same ∙ ap (verdict_of run.left.world.algorithm run.left.world.procs) is.reports_are)),
       )
 
 -- the lines of a run that is recorded
 pub lines_are : (m left : MonitorState) (lines : List Line) (events : List MonitorEvent) (reports : List TextReport) (refused : Option (ℕ × RunRefusal)) (w : AlgorithmWorldState)
     (text : List ℕ) (ended : Result Verdict (ℕ × RunRefusal)) → IsRecording m left lines events reports refused → w ≡ left.world
-    → text ≡ (algorithm_format_line ++ kept_objects w events) ++ objects_unless refused w reports → ended ≡ run_outcome refused (verdict_of w.procs reports)
+    → text ≡ (algorithm_format_line ++ kept_objects w events) ++ objects_unless refused w reports → ended ≡ run_outcome refused (verdict_of w.algorithm w.procs reports)
     → IsRunText objects_by_steps m lines text ended
 lines_are m left lines events reports refused w text ended is world made ends =
     text_made first_objects objects_unless m left lines events reports refused w (algorithm_format_line ++ kept_objects w events) text ended is world
@@ -81,7 +81,7 @@ lines_are m left lines events reports refused w text ended is world made ends =
 pub lines_made : (m left : MonitorState) (lines : List Line) (events : List MonitorEvent) (reports : List TextReport) (refused : Option (ℕ × RunRefusal)) (w : AlgorithmWorldState)
     {A : Type 0} (r : Result ReplayText A) → IsRecording m left lines events reports refused → w ≡ left.world
     → IfOk r (λ made. made.text.items ≡ (algorithm_format_line ++ kept_objects w events) ++ objects_unless refused w reports)
-    → IfOk r (λ made. made.ended ≡ run_outcome refused (verdict_of w.procs reports)) → IfOk r (λ made. IsRunText objects_by_steps m lines made.text.items made.ended)
+    → IfOk r (λ made. made.ended ≡ run_outcome refused (verdict_of w.algorithm w.procs reports)) → IfOk r (λ made. IsRunText objects_by_steps m lines made.text.items made.ended)
 lines_made m left lines events reports refused w (Err e) is world made ends = tt
 lines_made m left lines events reports refused w (Ok text) is world made ends = lines_are m left lines events reports refused w text.text.items text.ended is world made ends
 

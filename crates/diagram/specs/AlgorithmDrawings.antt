@@ -32,13 +32,13 @@ end_by None verdict = Judged verdict
 end_by (Some (line, refusal)) verdict = Refused line (unwrap_or (number_of refusal) 0) verdict
 
 abbrev pub end_of : AlgorithmRun (ℕ × RunRefusal) → End
-end_of run = end_by run.refused (verdict_of run.left.world.procs run.reports)
+end_of run = end_by run.refused (verdict_of run.left.world.algorithm run.left.world.procs run.reports)
 
 -- these rows, verdict and refused line are those of the run of these lines, which leaves this
 abbrev pub IsDrawing : MonitorState → List Line → List AlgorithmRow → Verdict → Option (ℕ × RunRefusal) → MonitorState → Type 0
 IsDrawing m lines rows verdict refused left =
     let run = run_on 2 m lines in
-    (rows ≡ with_events [] (events_on m lines)) × (refused ≡ run.refused) × (left ≡ run.left) × (verdict ≡ verdict_of run.left.world.procs run.reports)
+    (rows ≡ with_events [] (events_on m lines)) × (refused ≡ run.refused) × (left ≡ run.left) × (verdict ≡ verdict_of run.left.world.algorithm run.left.world.procs run.reports)
 
 -- the drawing of rows: a lifeline for each process, all at rest before the first row, and none for a mailbox
 abbrev pub algorithm_text : Style → Head → Algorithm → List AlgorithmRow → End → List ℕ
@@ -71,7 +71,7 @@ answer_by (Err fault) refused verdict = Err faults.OutOfMemory
 -- the drawing is written, and the verdict answered or the line that is refused. Where the sink or memory fails a beginning was
 -- written; out of memory leaves some of it unwritten
 abbrev pub DrawsRun : Tape → Tape → List ℕ → AlgorithmRun (ℕ × RunRefusal) → Result Verdict AlgorithmReplayFault → Type 0
-DrawsRun before now text run (Ok verdict) = Writes before now text × (run.refused ≡ None) × (verdict ≡ verdict_of run.left.world.procs run.reports)
+DrawsRun before now text run (Ok verdict) = Writes before now text × (run.refused ≡ None) × (verdict ≡ verdict_of run.left.world.algorithm run.left.world.procs run.reports)
 DrawsRun before now text run (Err (faults.Refused line refusal)) = Writes before now text × (run.refused ≡ Some (line, refusal))
 DrawsRun before now text run (Err faults.Write) = Begins before.taken now.taken text × (now.failures ≡ min (before.failures + 1) (2 ^ 64 - 1))
 DrawsRun before now text run (Err faults.OutOfMemory) = BreaksOff before.taken now.taken text × (now.failures ≡ before.failures)

@@ -146,7 +146,7 @@ algorithm_format_line = codes "{\"format\":\"rmelab algorithm steps\",\"version\
 
 -- the last lines: the shared words, and the verdict
 abbrev pub last_objects : AlgorithmWorldState → List TextReport → List ℕ
-last_objects w reports = words_objects w.procs w.limit w.words 0 w.algorithm.declarations.items ++ verdict_object (verdict_of w.procs reports)
+last_objects w reports = words_objects w.procs w.limit w.words 0 w.algorithm.declarations.items ++ verdict_object (verdict_of w.algorithm w.procs reports)
 
 -- unless a line is refused
 abbrev pub objects_unless : Option (ℕ × RunRefusal) → AlgorithmWorldState → List TextReport → List ℕ

@@ -18,23 +18,25 @@ use crate::page_parts::put_text;
 use crate::page_text::{PAGE_HEAD, PAGE_SCRIPT, PAGE_STEP};
 use algorithm_lab::verdict::verdict_of;
 use algorithm_lab::{AlgorithmReplayFault, Monitor, ReplayText};
-use algorithms::{Algorithm, InitializedAlgorithm};
+use algorithms::{Algorithm, AlgorithmWorld, InitializedAlgorithm};
 use schedule::texts::head::Head;
 use schedule::{Page, Schedule, Sink, Verdict};
 use std::alloc::{AllocError, Global};
 
-/// The drawing of a run that is recorded, of this many processes.
+/// The drawing of a run that is recorded, and leaves this world.
 fn drawing_of(
     alloc: Global,
-    procs: u64,
+    world: &AlgorithmWorld,
     recording: &Recording,
 ) -> Result<AlgorithmDrawing, AllocError>
     ensures rows { IfOk result (λ d. d.rows.items ≡ with_kept [] recording.now.events.items) }
-    ensures verdict { IfOk result (λ d. d.verdict ≡ verdict_of procs recording.now.reports.items) }
+    ensures verdict { IfOk result (λ d. d.verdict
+        ≡ verdict_of world.now.algorithm world.now.procs recording.now.reports.items) }
     ensures refused { IfOk result (λ d. d.refused ≡ recording.now.refused) }
 {
     let rows = rows_of_events(alloc, recording.events.as_slice())?;
-    let verdict = verdict_of(alloc, procs, recording.reports.as_slice())?;
+    let reports = recording.reports.as_slice();
+    let verdict = verdict_of(alloc, world.algorithm(), world.procs(), reports)?;
     Ok(AlgorithmDrawing {
         rows,
         verdict,
@@ -81,7 +83,7 @@ fn page_of_run(
 {
     let recording = record_run(alloc, &mut monitor, schedule)?;
     let world = monitor.world();
-    let drawing = drawing_of(alloc, world.procs(), &recording)?;
+    let drawing = drawing_of(alloc, world, &recording)?;
     let picture = picture_of(alloc, schedule.head(), world.algorithm(), &drawing)?;
     let lines = objects_of(alloc, world, &recording)?;
     let mut text = Vec::new(alloc);

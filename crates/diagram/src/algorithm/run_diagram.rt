@@ -54,7 +54,8 @@ fn play(
     let mut rows = AlgorithmRows::new(alloc);
     let refused = hear_lines(monitor, &mut rows, schedule.lines())?;
     let AlgorithmRows { rows, reports } = rows;
-    let verdict = verdict_of(alloc, monitor.world().procs(), reports.as_slice())?;
+    let world = monitor.world();
+    let verdict = verdict_of(alloc, world.algorithm(), world.procs(), reports.as_slice())?;
     Ok(AlgorithmDrawing {
         rows,
         verdict,

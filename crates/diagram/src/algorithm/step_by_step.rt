@@ -115,7 +115,8 @@ fn put_end(
     ensures text { OnOk result (out.new.items
         ≡ out.old.items ++ end_unless recording.now.refused world.now recording.now.reports.items) }
     ensures ended { IfOk result (λ ended. ended
-        ≡ run_outcome recording.now.refused (verdict_of world.now.procs recording.now.reports.items)) }
+        ≡ run_outcome recording.now.refused
+        (verdict_of world.now.algorithm world.now.procs recording.now.reports.items)) }
 {
     match recording.refused {
         None => Ok(Ok(put_report_end(alloc, out, world, recording.reports.as_slice())?)),

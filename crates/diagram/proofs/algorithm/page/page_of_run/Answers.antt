@@ -1,5 +1,4 @@
 use Rattle.std.proofs.Common.{◌++◌, ◌∙◌, List, Option, ℕ, ap}
-use Rattle.algorithm_lab.specs.Reports.{verdict_of}
 use Rattle.algorithm_lab.specs.declared.run_refusal.RunRefusal.{RunRefusal}
 use Rattle.algorithms.specs.Worlds.{AlgorithmWorldState}
 use Rattle.diagram.proofs.AlgorithmPages.{drawing_is, page_made}
@@ -20,7 +19,7 @@ returns c =
     let w = c.world-world.result.now in
     let drawing = c.in_ok-drawing.drawing in
     let made = c.in_ok-lines.lines in
-    let ruled = c.in_ok-drawing.ensures.verdict ∙ ap (λ (n : ℕ). verdict_of n run.reports.items) c.procs.ensures in
+    let ruled = c.in_ok-drawing.ensures.verdict in
     let drawn =
     drawing_is m left schedule.lines run.events.items run.reports.items run.refused w drawing.rows.items drawing.verdict is c.world-world.ensures c.in_ok-drawing.ensures.rows ruled in
     let text = lines_are m left schedule.lines run.events.items run.reports.items run.refused w made.text.items made.ended is c.world-world.ensures c.in_ok-lines.ensures.text c.in_ok-lines.ensures.ended in

@@ -1,4 +1,4 @@
-use Rattle.std.proofs.Common.{ℕ, List, ap, ◌∙◌, subst}
+use Rattle.std.proofs.Common.{List, ap, ◌∙◌, subst}
 use Rattle.algorithms.specs.Worlds.{AlgorithmWorldState}
 use Rattle.algorithm_lab.specs.Reports.{verdict_of}
 use Rattle.algorithm_lab.specs.Runs.{monitor_transitions}
@@ -18,6 +18,7 @@ returns c =
     let refused = c.in_ok-refused.refused in
     let plays = subst (λ (lines : List Line). PlaysAll algorithm_row_effects c.new-rows.result now (run_on monitor_transitions itself 2 m lines) left refused) c.lines.ensures c.in_ok-refused.ensures in
     let ruled =
-    c.in_ok-verdict.ensures ∙ ap (λ (n : ℕ). verdict_of n c.as_slice.result.now) c.procs.ensures ∙ ap (λ (w : AlgorithmWorldState). verdict_of w.procs c.as_slice.result.now) c.world.ensures
-    ∙ ap (λ (ts : List TextReport). verdict_of left.world.procs ts) c.as_slice.ensures.value in
+    c.in_ok-verdict.ensures ∙ (λ i. verdict_of (c.algorithm.ensures i) (c.procs.ensures i) c.as_slice.result.now)
+    ∙ ap (λ (w : AlgorithmWorldState). verdict_of w.algorithm w.procs c.as_slice.result.now) c.world-world.ensures
+    ∙ ap (λ (ts : List TextReport). verdict_of left.world.algorithm left.world.procs ts) c.as_slice.ensures.value in
     draws_run c.new-rows.result now m c.args.schedule.now.lines left refused c.in_ok-verdict.verdict c.new-rows.ensures.rows c.new-rows.ensures.reports plays ruled

@@ -39,8 +39,9 @@ algorithm, a crash of all processes, of which there are at most --system-crashes
 worlds are one state if their words, their processes, the judge and the crashes left are the same; with --starving \
 the judge is left out. Of a process those variables count that a move may still read; all do with --all-variables or, \
 of a variant, --stuck or --starving.\nOut: the schedule of fewest moves that goes wrong, which `rmelab replay` with \
-the same --variant or --algorithm replays to its fault; `nothing found within K moves`; or, if all was tried, \
-`nothing found: all N states`; of an algorithm with moves to values out of range `nothing found: all N states, M \
+the same --variant or --algorithm replays to its fault; of an algorithm that promises `bounds`, also one that ends with \
+a move to a value out of range, which `rmelab replay` refuses; `nothing found within K moves`; or, if all was tried, \
+`nothing found: all N states`; of another algorithm with moves to values out of range `nothing found: all N states, M \
 moves left out from line L`. With --stuck, if none goes wrong: the schedule of fewest moves to a state from which no \
 starts and steps bring each process to rest with all lock words 0, unless by an unlock that ruins the lock, or, of an \
 algorithm, to rest outside and not in line; it replays to a fine verdict; or `never stuck: all N states`. With \

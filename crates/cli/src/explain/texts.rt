@@ -73,11 +73,12 @@ the line, a ready from the doorway, an enter from the line, a re-entry after a c
 a quit from the doorway or the line.";
 
 const TWO_INSIDE: &str =
-    "A process entered while another was inside. Mutual exclusion is violated.";
+    "A process entered while another was inside, or, of a text that promises `exclusion of K`, K others. Mutual \
+exclusion is violated.";
 
 const NOT_REENTERED: &str =
     "A process entered after another had crashed inside and before that one entered again. Until that one has entered \
-again, no other may.";
+again, no other may; with `exclusion of K` it counts as inside.";
 
 const OVERTAKEN: &str =
     "`by Q of P`: process Q entered, though P was ready before Q began, and P has neither entered since nor given up \

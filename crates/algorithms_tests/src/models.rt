@@ -13,6 +13,7 @@ pub const PETERSON: ModelParts = [
 #define LIMIT 1
 #define CRASHES 1
 #define LINES 13
+#define MOST_INSIDE 1
 #define REENTRY 1
 #define ORDER 0
 #define EXIT_BOUND NO_BOUND
@@ -94,6 +95,7 @@ pub const MCS: ModelParts = [
 #define LIMIT 4
 #define CRASHES 0
 #define LINES 20
+#define MOST_INSIDE 1
 #define REENTRY 0
 #define ORDER 1
 #define EXIT_BOUND NO_BOUND
@@ -195,6 +197,7 @@ pub const BAKERY: ModelParts = [
 #define LIMIT 4
 #define CRASHES 0
 #define LINES 60
+#define MOST_INSIDE 1
 #define REENTRY 1
 #define ORDER 1
 #define EXIT_BOUND NO_BOUND
@@ -358,6 +361,7 @@ pub const CLH: ModelParts = [
 #define LIMIT 4
 #define CRASHES 0
 #define LINES 15
+#define MOST_INSIDE 1
 #define REENTRY 0
 #define ORDER 1
 #define EXIT_BOUND NO_BOUND

@@ -17,6 +17,7 @@ search with bounds on own steps\n\
 == hurried_ticket 2 1 0\n--\n2 moves\n\
 == bounded_peterson 2 1 0\n--\n138 states\n\
 == bounded_peterson 2 1 1\n--\n594 states\n\
+== semaphore_2 3 4 0\n--\n56 states\n\
 ";
 
 /// The first step above the bound is reported once, before the deeds of the step. A crash gives the section up. The verdict on the
@@ -197,10 +198,21 @@ read faults of bounds\n\
 == bounds without a comma\nalgorithm a for 2 processes\npromises exclusion, deadlock freedom bounds\nshared w\ncall lock\n  w := 1 this is enter\n  done\ncall unlock\n  w := 0 this is leave\n  done\n--\nline 2: fault 4\n\
 == no promise\nalgorithm a for 2 processes\npromises exclusion, fairness\nshared w\ncall lock\n  w := 1 this is enter\n  done\ncall unlock\n  w := 0 this is leave\n  done\n--\nline 2: fault 4\n\
 == a number\nalgorithm a for 2 processes\npromises exclusion, 1\nshared w\ncall lock\n  w := 1 this is enter\n  done\ncall unlock\n  w := 0 this is leave\n  done\n--\nline 2: fault 4\n\
+== of no number\nalgorithm a for 2 processes\npromises exclusion of\nshared w\ncall lock\n  w := 1 this is enter\n  done\ncall unlock\n  w := 0 this is leave\n  done\n--\nline 2: fault 4\n\
+== of twice\nalgorithm a for 2 processes\npromises exclusion of of 2\nshared w\ncall lock\n  w := 1 this is enter\n  done\ncall unlock\n  w := 0 this is leave\n  done\n--\nline 2: fault 4\n\
+== of after a comma\nalgorithm a for 2 processes\npromises exclusion, of 2\nshared w\ncall lock\n  w := 1 this is enter\n  done\ncall unlock\n  w := 0 this is leave\n  done\n--\nline 2: fault 4\n\
+== of a name\nalgorithm a for 2 processes\npromises exclusion of w\nshared w\ncall lock\n  w := 1 this is enter\n  done\ncall unlock\n  w := 0 this is leave\n  done\n--\nline 2: fault 4\n\
+== of and a comma\nalgorithm a for 2 processes\npromises exclusion of, reentry\nshared w\ncall lock\n  w := 1 this is enter\n  done\ncall unlock\n  w := 0 this is leave\n  done\n--\nline 2: fault 4\n\
+== of two numbers\nalgorithm a for 2 processes\npromises exclusion of 2 3\nshared w\ncall lock\n  w := 1 this is enter\n  done\ncall unlock\n  w := 0 this is leave\n  done\n--\nline 2: fault 4\n\
+== of and of\nalgorithm a for 2 processes\npromises exclusion of 2 of 2\nshared w\ncall lock\n  w := 1 this is enter\n  done\ncall unlock\n  w := 0 this is leave\n  done\n--\nline 2: fault 4\n\
+== a number without of\nalgorithm a for 2 processes\npromises exclusion 2\nshared w\ncall lock\n  w := 1 this is enter\n  done\ncall unlock\n  w := 0 this is leave\n  done\n--\nline 2: fault 4\n\
+== of after re-entry\nalgorithm a for 2 processes\npromises exclusion, reentry of 2\nshared w\ncall lock\n  w := 1 this is enter\n  done\ncall unlock\n  w := 0 this is leave\n  done\n--\nline 2: fault 4\n\
+== of without exclusion\nalgorithm a for 2 processes\npromises of 2\nshared w\ncall lock\n  w := 1 this is enter\n  done\ncall unlock\n  w := 0 this is leave\n  done\n--\nline 2: fault 4\n\
 == too great\nalgorithm a for 2 processes\npromises exclusion, exit within 18446744073709551616\nshared w\ncall lock\n  w := 1 this is enter\n  done\ncall unlock\n  w := 0 this is leave\n  done\n--\nline 2: fault 16\n\
+== of too many\nalgorithm a for 2 processes\npromises exclusion of 18446744073709551616\nshared w\ncall lock\n  w := 1 this is enter\n  done\ncall unlock\n  w := 0 this is leave\n  done\n--\nline 2: fault 16\n\
 ";
 
-/// `exit`, `recovery`, `doorway`, `within`, `freedom` and `bounds` are no words of the format. Further promises come in any order.
+/// `of`, `exit`, `recovery`, `doorway`, `within`, `freedom` and `bounds` are no words of the format. Further promises come in any order.
 pub const GOOD: &str = "\
 read bounds\n\
 == a recovery alone\nalgorithm a for 2 processes\npromises exclusion, recovery within 0\nshared w\ncall lock\n  w := 1 this is enter\n  done\ncall unlock\n  w := 0 this is leave\n  done\n--\nread\n\
@@ -211,6 +223,11 @@ read bounds\n\
 == the recovery first\nalgorithm a for 2 processes\npromises exclusion, reentry, recovery within 1, exit within 1\nshared w\ncall lock\n  w := 1 this is enter\n  done\ncall unlock\n  w := 0 this is leave\n  done\n--\nread\n\
 == the doorway first\nalgorithm a for 2 processes\npromises exclusion, order, doorway within 1, exit within 1\nshared w\ncall lock\n  w := 1 this is begin\n  w := 2 this is ready\n  w := 3 this is enter\n  done\ncall unlock\n  w := 0 this is leave\n  done\n--\nread\n\
 == from the last to the first\nalgorithm a for 2 processes\npromises exclusion, reentry, order, bounds, starvation freedom, doorway within 3, recovery within 2, exit within 1\nshared w\ncall lock\n  w := 1 this is begin\n  w := 2 this is ready\n  w := 3 this is enter\n  done\ncall unlock\n  w := 0 this is leave\n  done\n--\nread\n\
+== of two\nalgorithm a for 2 processes\npromises exclusion of 2\nshared w\ncall lock\n  w := 1 this is enter\n  done\ncall unlock\n  w := 0 this is leave\n  done\n--\nread\n\
+== of none\nalgorithm a for 2 processes\npromises exclusion of 0\nshared w\ncall lock\n  w := 1 this is enter\n  done\ncall unlock\n  w := 0 this is leave\n  done\n--\nread\n\
+== of one, and the rest\nalgorithm a for 2 processes\npromises exclusion of 1, reentry, order, bounds\nshared w\ncall lock\n  w := 1 this is begin\n  w := 2 this is ready\n  w := 3 this is enter\n  done\ncall unlock\n  w := 0 this is leave\n  done\n--\nread\n\
+== of the most\nalgorithm a for 2 processes\npromises exclusion of 18446744073709551615, bounds\nshared w\ncall lock\n  w := 1 this is enter\n  done\ncall unlock\n  w := 0 this is leave\n  done\n--\nread\n\
+== of as a name\nalgorithm of for 2 processes\npromises exclusion of 2\nshared of\ncall lock\n  of := 1 this is enter\n  done\ncall unlock\n  of := 0 this is leave\n  done\n--\nread\n\
 == as the reference program has it\nalgorithm a for 2 processes\npromises exclusion, deadlock freedom, exit within 1\nshared w\ncall lock\n  w := 1 this is enter\n  done\ncall unlock\n  w := 0 this is leave\n  done\n--\nread\n\
 == as the reference program has it\nalgorithm a for 2 processes\npromises exclusion, order, starvation freedom, bounds, doorway within 2\nshared w\ncall lock\n  w := 1 this is begin\n  w := 2 this is ready\n  w := 3 this is enter\n  done\ncall unlock\n  w := 0 this is leave\n  done\n--\nread\n\
 == as the reference program has it\nalgorithm a for 2 processes\npromises exclusion, order, starvation freedom, bounds, exit within 2, doorway within 1\nshared w\ncall lock\n  w := 1 this is begin\n  w := 2 this is ready\n  w := 3 this is enter\n  done\ncall unlock\n  w := 0 this is leave\n  done\n--\nread\n\

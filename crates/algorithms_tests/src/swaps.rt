@@ -192,7 +192,7 @@ answer \n\
 Entries { lock: 0, unlock: 6, recover: None, withdraw: None }
 recoverable_test_and_set [\"h\"]
 [Declaration { name: \"holder\", extent: One, bound: Some(Procs), home: None }]
-Promises { reentry: true, order: false, exit: None, recovery: None, doorway: None, progress: None, bounds: false }
+Promises { most_inside: 1, reentry: true, order: false, exit: None, recovery: None, doorway: None, progress: None, bounds: false }
 1 to 64 processes, 0 lasting names
 first values None
 ";

@@ -17,7 +17,7 @@ bounded golab_ramaraju yang_anderson homes clh corner golab_ramaraju_tournament 
 table filter stairs bounded_peterson bounded_test_and_set bounded_ticket hurried_ticket \
 instant_test_and_set mcs_exit_3 ticket_exit_1 ticket_exit_2 begun_ticket claimed_ticket kept_ticket \
 linked_mcs unlinked_mcs crossed_flags fair_test_and_set free_test_and_set \
-jayanti_jayanti_joshi jayanti_jayanti_joshi_two_nodes";
+jayanti_jayanti_joshi jayanti_jayanti_joshi_two_nodes semaphore_2";
 
 /// A text as it is written: blocks that end in lines to which no run comes, gotos at the end of an `if`, and brackets.
 const BLOCKS: &str = "algorithm blocks for 2 to 4 processes
@@ -72,9 +72,9 @@ call unlock
   done
 ";
 
-/// A text as it is written: constants, whose values stand where they were named, bounds and first values.
+/// A text as it is written: two inside at once, constants, whose values stand where they were named, bounds and first values.
 const VALUES: &str = "algorithm values for 2 to 8 processes
-promises exclusion, order
+promises exclusion of 2, order
 constant two = 2
 constant most = max(procs, 2) - (limit - 1)
 constant twice = (max(procs, 2) - (limit - 1)) * 2
@@ -168,9 +168,9 @@ at11:
   done
 ";
 
-/// A text with further promises in another order than they are written in.
+/// A text that says of exclusion what goes without saying, and further promises in another order than they are written in.
 const UNORDERED: &str = "algorithm unordered for 2 to 4 processes
-promises exclusion, reentry, order, bounds, doorway within 3, starvation freedom, recovery within 2, exit within 1
+promises exclusion of 1, reentry, order, bounds, doorway within 3, starvation freedom, recovery within 2, exit within 1
 shared x
 
 call lock
@@ -226,7 +226,7 @@ fn texts_are_written_and_read_again(rt: HostRuntime) -> Result<(), Fail> {
     Ok(())
 }
 
-/// Further promises are read in any order, and written in one.
+/// Further promises are read in any order, and written in one. `of 1` is read, and not written.
 #[test]
 fn promises_are_written_in_one_order(rt: HostRuntime) -> Result<(), Fail> {
     let written = written_of(&rt, rt.alloc(), UNORDERED.as_bytes())?;

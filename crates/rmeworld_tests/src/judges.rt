@@ -51,9 +51,15 @@ fn are_judged(judge: &mut Judge, deeds: &str) -> bool {
     true
 }
 
-/// A row on a new judge: the number of processes and the capacity, and then deeds, or the refusal of the sizes, as `refused 8`.
+/// A row on a new judge: the number of processes, the capacity and, if not 1, the most processes inside; and then deeds, or the
+/// refusal of the sizes, as `refused 8`.
 pub fn holds(alloc: Global, sizes: &Phrase<'_>, rest: &str) -> bool {
-    match Judge::new(alloc, sizes.number(0), sizes.number(1)) {
+    let (procs, cap) = (sizes.number(0), sizes.number(1));
+    let judge = match sizes.numbers(2).first() {
+        Some(most_inside) => Judge::of_exclusion(alloc, *most_inside, procs, cap),
+        None => Judge::new(alloc, procs, cap),
+    };
+    match judge {
         Ok(mut judge) => are_judged(&mut judge, rest),
         Err(refusal) => is_refusal(refusal, rest),
     }
@@ -219,6 +225,18 @@ sizes 64 2: begin 0; ready 0; enter 0; close 0; commit 0 1 5 after-close
 sizes 64 2: begin 63; ready 63; enter 63; close 63; commit 63 1 5 after-close
 sizes 64 2: crash 64 out-of-place
 sizes 64 2: begin 40; ready 40; begin 9; ready 9; begin 63; ready 63; enter 63 overtaken 63 9
+
+judges: two inside
+# A third can't enter, one that crashed inside counts, and the order of entries is the same.
+sizes 3 2 2: begin 0; ready 0; begin 1; ready 1; begin 2; ready 2; enter 0; enter 1; enter 2 two-inside; leave 0; enter 2
+sizes 3 2 2: begin 0; ready 0; enter 0; begin 1; ready 1; enter 1; crash 0; begin 2; ready 2; enter 2 not-reentered; leave 1; enter 2; reenter 0
+sizes 3 2 2: begin 0; ready 0; begin 1; ready 1; enter 1 overtaken 1 0
+# with one it is mutual exclusion, with none nobody enters
+sizes 2 2 1: begin 0; ready 0; enter 0; begin 1; ready 1; enter 1 two-inside
+sizes 2 2 1: begin 0; ready 0; enter 0; crash 0; begin 1; ready 1; enter 1 not-reentered
+sizes 2 2 0: begin 0; ready 0; enter 0 two-inside
+sizes 0 2 2: refused 1
+sizes 2 0 2: refused 8
 
 judges: limits
 sizes 0 0: refused 1

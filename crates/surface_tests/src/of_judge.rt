@@ -10,11 +10,12 @@ pub fn new_judge(
     procs: u64,
     cap: u64,
     start: &Start,
-) -> (Result<Judge, Refusal>, Result<Judge, Refusal>) {
-    (
+) -> [Result<Judge, Refusal>; 3] {
+    [
         Judge::new(alloc, procs, cap),
+        Judge::of_exclusion(alloc, 2, procs, cap),
         Judge::from_start(alloc, start),
-    )
+    ]
 }
 
 pub fn fed(judge: &mut Judge, deed: Deed) -> (Result<(), Fault>, Result<(), Fault>, u64) {

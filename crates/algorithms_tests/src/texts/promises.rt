@@ -198,3 +198,21 @@ call unlock
   flag[me] := 0                         this is leave
   done
 ";
+
+pub const SEMAPHORE_2: &[u8] =
+    br"# Dijkstra 1965, a semaphore for two: taken counts those inside. A process may starve, and a crash inside holds one place for ever.
+algorithm semaphore_2 for 1 to 64 processes
+promises exclusion of 2, deadlock freedom, bounds, exit within 1
+
+constant places = 2
+shared taken up to places
+
+call lock
+  await t := swap taken to t + 1 if t < places until t < places
+  this is enter
+  done
+
+call unlock
+  t := swap taken to t - 1              this is leave
+  done
+";

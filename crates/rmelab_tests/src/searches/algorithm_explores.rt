@@ -2,7 +2,7 @@
 
 /// `TWO_AT_ONCE`: both read that nobody holds it before either has stored. `CRASH_INSIDE`: process 0 dies inside, comes back and
 /// gives way, and process 1 enters; `CRASH_OF_ALL`: so it does where all die. `STARVES`: process 1 sees the flag of process 0 each time. `OUT_OF_NUMBERS`: process 1 waits for no
-/// number, process 0 for its doorway. `OUT_OF_RANGE`: the second entry is counted as 2. `LEFT_HELD`: process 0 waits for itself. `NO_MAILBOX`: the options of a
+/// number, process 0 for its doorway. `OUT_OF_RANGE`: the second entry is counted as 2. `LEFT_HELD`: process 0 waits for itself. `THIRD_INSIDE`: a third enters where two may be inside. `NO_MAILBOX`: the options of a
 /// variant's search alone.
 pub const TEXTS: &str = "
 @text CRASH_INSIDE
@@ -121,6 +121,36 @@ call lock
 call unlock
   held := 0 this is leave
   done
+@text SEATS
+algorithm seats for 1 to 64 processes
+promises exclusion of 2, deadlock freedom, bounds
+shared taken up to procs
+call lock
+  await t := swap taken to t + 1 if t < 2 until t < 2
+  this is enter
+  done
+call unlock
+  t := swap taken to t - 1 this is leave
+  done
+@text THREE_SEATS
+algorithm seats for 1 to 64 processes
+promises exclusion of 2, deadlock freedom, bounds
+shared taken up to procs
+call lock
+  await t := swap taken to t + 1 if t < 3 until t < 3
+  this is enter
+  done
+call unlock
+  t := swap taken to t - 1 this is leave
+  done
+@text THIRD_INSIDE
+rme 1 procs 3 limit 1 cap 1
+lock 0
+step 0
+lock 1
+step 1
+lock 2
+step 2
 @text OUT_OF_RANGE
 rme 1 procs 2 limit 1 cap 1
 lock 0
@@ -229,6 +259,39 @@ answer 0 done
 begin 0
 ready 0
 enter 0
+@row rmelab explore --algorithm a.lock --procs 3 --limit 1 --jobs 1 @file a.lock SEATS @out
+nothing found: all 56 states
+never starving: all 56 states
+@row rmelab explore --algorithm a.lock --procs 3 --limit 1 --jobs 3 @file a.lock SEATS @out
+nothing found: all 56 states
+never starving: all 56 states
+@row rmelab explore --algorithm a.lock --procs 3 --limit 1 --jobs 1 @file a.lock THREE_SEATS @out THIRD_INSIDE @ends 1
+@row rmelab explore --algorithm a.lock --procs 3 --limit 1 --jobs 3 @file a.lock THREE_SEATS @out THIRD_INSIDE @ends 1
+@row rmelab replay --algorithm a.lock @in THIRD_INSIDE @file a.lock THREE_SEATS @ends 1 @out
+begin 0
+ready 0
+enter 0
+answer 0 done
+begin 1
+ready 1
+enter 1
+answer 1 done
+begin 2
+ready 2
+enter 2
+answer 2 done
+words taken 3
+verdict against 2 at 9
+@row rmelab hunt --algorithm a.lock --procs 3 --limit 1 --seed 2 --rounds 20 --steps 60 --shrink @file a.lock THREE_SEATS @ends 1 @out
+rme 1 procs 3 limit 1 cap 1
+lock 2
+lock 1
+step 1
+lock 0
+step 0
+step 2
+@row rmelab hunt --algorithm a.lock --procs 3 --limit 1 --seed 2 --rounds 20 --steps 60 @file a.lock SEATS @out
+nothing found
 @row rmelab explore --algorithm a.lock --procs 2 --limit 1 --starving @file a.lock BURNS @out STARVES @ends 1
 @row rmelab explore --algorithm a.lock --procs 2 --limit 1 --starving any --jobs 2 @file a.lock BURNS @out STARVES @ends 1
 @row rmelab explore --algorithm a.lock --procs 2 --limit 1 --starving nobody --states 58 @file a.lock PETERSON @out

@@ -67,7 +67,7 @@ fn put_outcome(
         Kind::Blocks => jug_sets::put_closed_by_blocks(alloc, words, given, text),
         Kind::Successors => jug_sets::put_successors(alloc, given, text),
         Kind::Sets => jug_sets::put_sets(alloc, given, text),
-        Kind::Predecessors => jug_sets::put_predecessors_of(alloc, given, text),
+        Kind::Predecessors => jug_sets::put_predecessors_of(alloc, words, given, text),
         Kind::Walk => jug_sets::put_walk(alloc, given, text),
         Kind::Schedule => schedules::put_shortest(alloc, words, text),
         Kind::Stuck => worlds::put_stuck(alloc, words, text),

@@ -3,8 +3,8 @@
 use crate::search::cases::number;
 use crate::search::jugs::Jugs;
 use state_streams::{
-    KeyForm, KeyPart, SetCheck, StreamFault, check_block, check_closed_set, expand, put_first,
-    put_predecessors, skip_header, split_sets, verdict_of, walk,
+    Approach, KeyForm, KeyPart, SetCheck, StreamFault, check_block, check_closed_set, expand,
+    put_first, put_predecessors, read_keys, skip_header, split_sets, verdict_of, walk,
 };
 use std::alloc::{AllocError, Global};
 use std::fmt::Write;
@@ -235,6 +235,38 @@ pub const PREDECESSORS: &str = "\
 ~
 --
 Err(At { line: 2, fault: NoKey })
+== ranks home
+32404
+!
+05404
+20404
+02404
+00404
+--
+05404
+02404
+00404
+== first home
+!
+05404
+00404
+--
+00404
+== spilled home
+00414
+!
+30414
+00414
+--
+00414
+== emptied home
+00404
+!
+30404
+05404
+--
+30404
+05404
 ";
 
 /// Sets, with `!` between them. The first move that leads into a set is taken, even where no other goes on from there.
@@ -334,16 +366,30 @@ pub fn put_successors(alloc: Global, given: &str, text: &mut String) -> Result<(
     put_lines(&lines, answer, text)
 }
 
-/// The states from which a move leads into a set, as a case.
-pub fn put_predecessors_of(alloc: Global, given: &str, text: &mut String) -> Result<(), Fail> {
+/// The states before a set, as a case: with the word `home` those at home, and those from which a way home leads into it.
+pub fn put_predecessors_of(
+    alloc: Global,
+    words: &[&str; 8],
+    given: &str,
+    text: &mut String,
+) -> Result<(), Fail> {
+    let approach = if words[1] == "home" {
+        Approach::WayHome
+    } else {
+        Approach::AnyMove
+    };
     let form = KeyForm::new(4, 1).ok_or("no form")?;
     let (set, states) = given.split_once("!\n").ok_or("no set")?;
+    let set = read_keys(alloc, &form, set.as_bytes())
+        .ok()
+        .ok_or("no keys")?;
     let mut lines = Vec::new(alloc);
     let answer = put_predecessors(
         alloc,
         &mut Jugs::empty(4),
         &form,
-        set.as_bytes(),
+        &set,
+        approach,
         states.as_bytes(),
         &mut lines,
     );

@@ -25,7 +25,7 @@ use command_parts::states::states_start::write_first;
 use command_parts::{CommandFault, Ending};
 use explorer::Space;
 use schedule::{Sink, Source};
-use state_streams::KeyForm;
+use state_streams::{Approach, KeyForm};
 use std::alloc::Global;
 
 /// The first state of an algorithm's search. `BadSize`: the algorithm has no world of these sizes.
@@ -76,7 +76,8 @@ fn carry_out_tool<R: Source, W: Sink>(
     match args.stream.tool {
         StatesTool::First => write_first(alloc, here, machine, form, w),
         StatesTool::Expand => expand_input(alloc, here, machine, form, r, w),
-        StatesTool::Lead => lead_input(alloc, here, machine, form, r, w),
+        StatesTool::Lead => lead_input(alloc, here, machine, form, Approach::AnyMove, r, w),
+        StatesTool::Home => lead_input(alloc, here, machine, form, Approach::WayHome, r, w),
         StatesTool::Check => check_input(alloc, here, machine, form, &args.stream, r, w),
         StatesTool::Walk => {
             let path = walk_of_input(alloc, here, machine, form, r)?;

@@ -18,7 +18,7 @@ use Rattle.algorithms.specs.declared.remote_references.memory_model.MemoryModel.
 use Rattle.algorithms.specs.declared.remote_references.memory_model.PassageKind.{PassageKind}
 use Rattle.algorithms.specs.declared.remote_references.memory_model.PassageKind.TheVariants.{Passage, SuperPassage}
 use Rattle.cli.specs.declared.arguments.args.StatesTool.{StatesTool}
-use Rattle.cli.specs.declared.arguments.args.StatesTool.TheVariants.{First, Expand, Lead, Check, Walk}
+use Rattle.cli.specs.declared.arguments.args.StatesTool.TheVariants.{First, Expand, Lead, Home, Check, Walk}
 
 abbrev pub Given : Type 0
 Given = List Row
@@ -71,6 +71,7 @@ abbrev pub word_of_tool : StatesTool → Text
 word_of_tool First = codes "first"
 word_of_tool Expand = codes "expand"
 word_of_tool Lead = codes "lead"
+word_of_tool Home = codes "home"
 word_of_tool Check = codes "check"
 word_of_tool Walk = codes "walk"
 

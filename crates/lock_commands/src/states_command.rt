@@ -22,7 +22,7 @@ use lock_explorer::{Explorer, moves_of_path};
 use redomail::Layout;
 use rmecore::Refusal;
 use schedule::{Sink, Source};
-use state_streams::KeyForm;
+use state_streams::{Approach, KeyForm};
 use std::alloc::Global;
 
 /// The first state of a search. `BadSize`: a size is outside its limits.
@@ -98,7 +98,8 @@ fn carry_out_tool<R: Source, W: Sink>(
     match args.stream.tool {
         StatesTool::First => write_first(alloc, here, machine, form, w),
         StatesTool::Expand => expand_input(alloc, here, machine, form, r, w),
-        StatesTool::Lead => lead_input(alloc, here, machine, form, r, w),
+        StatesTool::Lead => lead_input(alloc, here, machine, form, Approach::AnyMove, r, w),
+        StatesTool::Home => lead_input(alloc, here, machine, form, Approach::WayHome, r, w),
         StatesTool::Check => check_input(alloc, here, machine, form, &args.stream, r, w),
         StatesTool::Walk => walk_command(alloc, args, here, machine, form, r, w),
     }

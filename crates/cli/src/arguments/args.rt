@@ -208,6 +208,8 @@ pub enum StatesTool {
     Expand,
     /// Writes the lines of those states that it reads from which a move leads into a set.
     Lead,
+    /// Writes the lines of those states that it reads which are at home, or from which a move of a way home leads into a set.
+    Home,
     /// Says whether the set of states that it reads is closed.
     Check,
     /// Writes the schedule that leads through the sets of states that it reads to a fault.

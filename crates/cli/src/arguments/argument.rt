@@ -45,7 +45,7 @@ pub const ALGORITHM: Argument<'static> = Argument::Text("algorithm", "FILE", ALG
 /// The tool of `states`.
 pub const TOOL: Argument<'static> = Argument::RequiredWord(
     "TOOL",
-    "first, expand, lead, check or walk",
+    "first, expand, lead, home, check or walk",
 );
 
 /// `--starving` or `--starving WHO`: who may give up.

@@ -21,6 +21,7 @@ fn tool_named(name: &str) -> Option<StatesTool>
         "first" => Some(StatesTool::First),
         "expand" => Some(StatesTool::Expand),
         "lead" => Some(StatesTool::Lead),
+        "home" => Some(StatesTool::Home),
         "check" => Some(StatesTool::Check),
         "walk" => Some(StatesTool::Walk),
         _ => None,

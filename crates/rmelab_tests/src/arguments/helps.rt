@@ -187,7 +187,7 @@ Writes and checks the states of a search as lines of a text
 Usage: rmelab states [OPTIONS] --procs <N> <TOOL> [FILE]
 
 Arguments:
-  <TOOL>  first, expand, lead, check or walk
+  <TOOL>  first, expand, lead, home, check or walk
   [FILE]  The states; without it, standard input is read
 
 Options:
@@ -205,8 +205,8 @@ Options:
       --parts <P>         of P parts; 1 without it
   -h, --help              Print help
 
-In: nothing for first; else texts of states: a header and then a line for each state, as first writes them; with --algorithm the algorithm's text first: docs/use/algorithms.md. expand, check: one text. lead: a set of states, and then the states that are tried. walk: the sets that a schedule leads through, without that of the first state. The states are those that explore tries, by all variables.
-Out: of first the header and the line of the first state; of expand the header and a line for each move of each state, in the order of the lines and of the moves: that of its successor or, if the move goes wrong, `#` and its own; of lead the header and the lines of the states from which a move leads into the set; of check `closed: N states` if the first state is in the set, no move from it goes wrong and each leads into it, or else why it is not closed; of walk the first schedule through the sets that then goes wrong. docs/use/states.md has all of it.
+In: nothing for first; else texts of states: a header and then a line for each state, as first writes them; with --algorithm the algorithm's text first: docs/use/algorithms.md. expand, check: one text. lead, home: a set of states, and then the states that are tried. walk: the sets that a schedule leads through, without that of the first state. The states are those that explore tries, by all variables.
+Out: of first the header and the line of the first state; of expand the header and a line for each move of each state, in the order of the lines and of the moves: that of its successor or, if the move goes wrong, `#` and its own; of lead the header and the lines of the states from which a move leads into the set; of home those at home, or from which a move leads into it that is no crash and ruins nothing; of check `closed: N states` if the first state is in the set, no move from it goes wrong and each leads into it, or else why it is not closed; of walk the first schedule through the sets that then goes wrong. docs/use/states.md has all of it.
 Exit status: 0 if that was written, 1 if a set is not closed or a schedule was written, 2 after a fault of the words, the algorithm or a line, 3 after a fault of a device or of memory.
 
 Example: rmelab states first --variant no-look --procs 2

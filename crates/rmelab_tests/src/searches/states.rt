@@ -46,6 +46,7 @@ pub const STATES: &str = "
 @row rmelab states expand --variant right --procs 1 --calls unlock a.states @file a.states STILL @out NO_STATES
 @row rmelab states expand --variant right --procs 1 --calls unlock @in NO_STATES @out NO_STATES
 @row rmelab states lead --variant right --procs 1 --calls unlock @in STILL_TWICE @out NO_STATES
+@row rmelab states home --variant right --procs 1 --calls unlock @in STILL_TWICE @out STILL
 @row rmelab states check --variant right --procs 1 @in FIRST @ends 1 @out
 open: state 1 leads out of it
 @row rmelab states check --variant right --procs 1 --calls unlock @in NO_STATES @ends 1 @out
@@ -58,6 +59,7 @@ closed: 1 states, part 2 of 3, sha256 ec246a7240ad486a98a4c1014d26056d83ddc2a6fd
 @row rmelab states expand --variant right --procs 1 @ends 2 @err OTHER_HEADER
 @row rmelab states check --variant right --procs 1 @in STILL @ends 2 @err OTHER_HEADER
 @row rmelab states lead --variant right --procs 1 @in STILL @ends 2 @err OTHER_HEADER
+@row rmelab states home --variant right --procs 1 @in STILL @ends 2 @err OTHER_HEADER
 @row rmelab states walk --variant right --procs 1 @in STILL @ends 2 @err OTHER_HEADER
 @row rmelab states expand --variant right --procs 1 --calls unlock @in DAMAGED @ends 2 @out NO_STATES @err
 rmelab: states line 3: fault 2: this is no line of a state

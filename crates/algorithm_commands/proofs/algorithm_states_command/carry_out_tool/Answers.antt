@@ -2,9 +2,10 @@ use Rattle.std.proofs.Common.{rules, refl, subst}
 use Rattle.std.proofs.lemmas.Result.{err_from_is_err_and}
 use Rattle.schedule.specs.Schedules.{spelling}
 use Rattle.algorithm_explorer.specs.Boards.{search_state_of}
-use Rattle.cli.specs.declared.arguments.args.StatesTool.TheVariants.{First, Expand, Lead, Check, Walk}
+use Rattle.cli.specs.declared.arguments.args.StatesTool.TheVariants.{First, Expand, Lead, Home, Check, Walk}
 use Rattle.algorithm_commands.specs.AlgorithmExplores.{schedule_of}
 use Rattle.algorithm_commands.specs.AlgorithmStates.{algorithm_lines, algorithm_run}
+use Rattle.state_streams.specs.declared.predecessors.Approach.TheVariants.{AnyMove, WayHome}
 use Rattle.command_parts.specs.StateTexts.{CheckEnds, ExpandEnds, FindsWalk, FirstEnds, LeadEnds}
 use Rattle.command_parts.proofs.StateSets.{walk_unread}
 use Rattle.algorithm_commands.proofs.AlgorithmStates.{algorithm_lines_are}
@@ -27,7 +28,13 @@ pub returns-in-Lead-clause-ends : goal.returns-in-Lead-clause-ends
 returns-in-Lead-clause-ends g c = λ algorithm text live are.
     let lines = algorithm_lines_are algorithm text c.args.args.now live (search_state_of c.args.here.now) c.args.machine.now c.args.form.now are in
     tool_ends (algorithm_run algorithm text c.args.args.now live) Lead (g.R.Source.reading c.args.r.now) (g.R.Source.reading c.lead_input.new.r) (g.W.Sink.tape c.args.w.now) (g.W.Sink.tape c.lead_input.new.w) c.lead_input.result c.in-Lead.is
-    (subst (λ lines. LeadEnds lines (g.R.Source.reading c.args.r.now) (g.R.Source.reading c.lead_input.new.r) (g.W.Sink.tape c.args.w.now) (g.W.Sink.tape c.lead_input.new.w) c.lead_input.result) lines c.lead_input.ensures.ends)
+    (subst (λ lines. LeadEnds AnyMove lines (g.R.Source.reading c.args.r.now) (g.R.Source.reading c.lead_input.new.r) (g.W.Sink.tape c.args.w.now) (g.W.Sink.tape c.lead_input.new.w) c.lead_input.result) lines c.lead_input.ensures.ends)
+
+pub returns-in-Home-clause-ends : goal.returns-in-Home-clause-ends
+returns-in-Home-clause-ends g c = λ algorithm text live are.
+    let lines = algorithm_lines_are algorithm text c.args.args.now live (search_state_of c.args.here.now) c.args.machine.now c.args.form.now are in
+    tool_ends (algorithm_run algorithm text c.args.args.now live) Home (g.R.Source.reading c.args.r.now) (g.R.Source.reading c.lead_input-in-Home.new.r) (g.W.Sink.tape c.args.w.now) (g.W.Sink.tape c.lead_input-in-Home.new.w) c.lead_input-in-Home.result c.in-Home.is
+    (subst (λ lines. LeadEnds WayHome lines (g.R.Source.reading c.args.r.now) (g.R.Source.reading c.lead_input-in-Home.new.r) (g.W.Sink.tape c.args.w.now) (g.W.Sink.tape c.lead_input-in-Home.new.w) c.lead_input-in-Home.result) lines c.lead_input-in-Home.ensures.ends)
 
 pub returns-in-Check-clause-ends : goal.returns-in-Check-clause-ends
 returns-in-Check-clause-ends g c = λ algorithm text live are.

@@ -1,7 +1,8 @@
 use Rattle.std.proofs.Common.{refl, subst}
 use Rattle.lock_explorer.specs.Boards.{search_state_of}
-use Rattle.cli.specs.declared.arguments.args.StatesTool.TheVariants.{First, Expand, Lead, Check}
+use Rattle.cli.specs.declared.arguments.args.StatesTool.TheVariants.{First, Expand, Lead, Home, Check}
 use Rattle.lock_commands.specs.States.{states_run}
+use Rattle.state_streams.specs.declared.predecessors.Approach.TheVariants.{AnyMove, WayHome}
 use Rattle.command_parts.specs.StateTexts.{CheckEnds, ExpandEnds, FirstEnds, LeadEnds}
 use Rattle.lock_commands.proofs.States.{lines_are}
 use Rattle.command_parts.proofs.StatesEnds.{tool_ends}
@@ -26,7 +27,14 @@ returns-in-Lead-clause-ends g c =
     let args = c.args.args.now in
     let lines = lines_are args (search_state_of c.args.here.now) c.args.machine.now c.args.form.now c.requires.start c.requires.machine c.requires.words c.requires.digits in
     tool_ends (states_run args) Lead (g.R.Source.reading c.args.r.now) (g.R.Source.reading c.lead_input.new.r) (g.W.Sink.tape c.args.w.now) (g.W.Sink.tape c.lead_input.new.w) c.lead_input.result c.in-Lead.is
-    (subst (λ lines. LeadEnds lines (g.R.Source.reading c.args.r.now) (g.R.Source.reading c.lead_input.new.r) (g.W.Sink.tape c.args.w.now) (g.W.Sink.tape c.lead_input.new.w) c.lead_input.result) lines c.lead_input.ensures.ends)
+    (subst (λ lines. LeadEnds AnyMove lines (g.R.Source.reading c.args.r.now) (g.R.Source.reading c.lead_input.new.r) (g.W.Sink.tape c.args.w.now) (g.W.Sink.tape c.lead_input.new.w) c.lead_input.result) lines c.lead_input.ensures.ends)
+
+pub returns-in-Home-clause-ends : goal.returns-in-Home-clause-ends
+returns-in-Home-clause-ends g c =
+    let args = c.args.args.now in
+    let lines = lines_are args (search_state_of c.args.here.now) c.args.machine.now c.args.form.now c.requires.start c.requires.machine c.requires.words c.requires.digits in
+    tool_ends (states_run args) Home (g.R.Source.reading c.args.r.now) (g.R.Source.reading c.lead_input-in-Home.new.r) (g.W.Sink.tape c.args.w.now) (g.W.Sink.tape c.lead_input-in-Home.new.w) c.lead_input-in-Home.result c.in-Home.is
+    (subst (λ lines. LeadEnds WayHome lines (g.R.Source.reading c.args.r.now) (g.R.Source.reading c.lead_input-in-Home.new.r) (g.W.Sink.tape c.args.w.now) (g.W.Sink.tape c.lead_input-in-Home.new.w) c.lead_input-in-Home.result) lines c.lead_input-in-Home.ensures.ends)
 
 pub returns-in-Check-clause-ends : goal.returns-in-Check-clause-ends
 returns-in-Check-clause-ends g c =

@@ -1,8 +1,9 @@
 #!/usr/bin/python3 -IS
 """A small program for the tests of the drivers, with the tools of `rmelab states`: a jug of 3 litres and one of 5. What goes wrong is
-to have WANTED litres in the big one.
+to have WANTED litres in the big one. At home both are empty; a big jug that falls over, and is empty then, is a crash. With --heavy
+nobody lifts the big jug while it is full.
 
-jugs_filter.py states TOOL --wanted WANTED [--part I] [--parts P] [FILE]
+jugs_filter.py states TOOL --wanted WANTED [--heavy] [--part I] [--parts P]
 """
 
 import argparse
@@ -47,18 +48,12 @@ class Jugs:
 
     def __init__(self, given: argparse.Namespace) -> None:
         self.given = given
-        self.header = f"!states 1 words 1 digits 1 of jugs wanted {given.wanted}"
-
-    def text(self) -> str:
-        if self.given.file is None:
-            return sys.stdin.read()
-        with open(self.given.file, encoding="ascii") as file:
-            return file.read()
+        self.header = f"!states 1 words 1 digits 1 of jugs wanted {given.wanted}{' heavy' if given.heavy else ''}"
 
     def sets(self) -> list[list[State]]:
         """The sets that are read, each after a header."""
         sets: list[list[State]] = []
-        for number, line in enumerate(self.text().splitlines(), 1):
+        for number, line in enumerate(sys.stdin.read().splitlines(), 1):
             if line.startswith("!") or not sets:
                 if line != self.header:
                     refuse(number, 1)
@@ -71,8 +66,7 @@ class Jugs:
         return state[1] == self.given.wanted
 
     def first(self) -> int:
-        print(self.header)
-        print(to_line((0, 0)))
+        print(self.header, to_line((0, 0)), sep="\n")
         return 0
 
     def expand(self) -> int:
@@ -88,6 +82,21 @@ class Jugs:
         print(self.header)
         for state in states:
             if any(after in targets and not self.is_wrong(after) for _, after in moves_of(state)):
+                print(to_line(state))
+        return 0
+
+    def homeward(self, state: State) -> Iterator[State]:
+        """Where the moves lead that a way home may make."""
+        for name, after in moves_of(state):
+            is_lifted = self.given.heavy and name == "big to small" and state[1] == 5
+            if name != "empty big" and not is_lifted and not self.is_wrong(after):
+                yield after
+
+    def home(self) -> int:
+        targets, states = self.sets()
+        print(self.header)
+        for state in states:
+            if state == (0, 0) or any(after in targets for after in self.homeward(state)):
                 print(to_line(state))
         return 0
 
@@ -108,7 +117,7 @@ class Jugs:
         return None
 
     def check(self) -> int:
-        text = self.text()
+        text = sys.stdin.read()
         header, *lines = text.splitlines() or [""]
         if header != self.header:
             refuse(1, 1)
@@ -133,14 +142,13 @@ class Jugs:
 def main(words: list[str]) -> int:
     parser = argparse.ArgumentParser()
     parser.add_argument("states", choices=["states"])
-    parser.add_argument("tool", choices=["first", "expand", "lead", "check", "walk"])
+    parser.add_argument("tool", choices=["first", "expand", "lead", "home", "check", "walk"])
     parser.add_argument("--wanted", type=int, required=True)
+    parser.add_argument("--heavy", action="store_true")
     parser.add_argument("--part", type=int, default=0)
     parser.add_argument("--parts", type=int, default=1)
-    parser.add_argument("file", nargs="?")
     given = parser.parse_intermixed_args(words)
-    jugs = Jugs(given)
-    return {"first": jugs.first, "expand": jugs.expand, "lead": jugs.lead, "check": jugs.check, "walk": jugs.walk}[given.tool]()
+    return int(getattr(Jugs(given), given.tool)())
 
 
 if __name__ == "__main__":

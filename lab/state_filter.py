@@ -8,7 +8,7 @@ import os
 import re
 import subprocess
 import zlib
-from collections.abc import Iterable, Iterator
+from collections.abc import Iterable
 from concurrent.futures import ThreadPoolExecutor
 from typing import IO
 
@@ -37,12 +37,12 @@ class Ended(Exception):
         return str(self.args[0])
 
 
-def pack(text: bytes | memoryview) -> bytes:
-    """A text made small. One after the other these are a file that zstd, or gzip, knows."""
+def pack(text: bytes | memoryview, level: int = 1) -> bytes:
+    """A text made small, by zstd at this level. One after the other these are a file that zstd, or gzip, knows."""
     if not text:
         return b""
     if zstandard:
-        return zstandard.ZstdCompressor(level=1, write_checksum=True).compress(text)
+        return zstandard.ZstdCompressor(level=level, write_checksum=True).compress(text)
     return gzip.compress(text, 1)
 
 
@@ -61,12 +61,6 @@ def unpack(packed: bytes) -> bytes:
 def in_order(lines: bytes) -> bytes:
     """These lines in the order of their text, by which `rmelab states lead` finds one soon."""
     return b"".join(sorted(lines.splitlines(keepends=True)))
-
-
-def pieces_of(file: io.BufferedIOBase, size: int = PIECE) -> Iterator[bytes]:
-    """What a file has, by that many bytes."""
-    while piece := file.read(size):
-        yield piece
 
 
 def with_whole_paths(words: list[str]) -> tuple[str, ...]:
@@ -109,8 +103,9 @@ class StateFilter:
             said = pool.submit(process.stderr.read)
             printed = process.stdout.read()
             fed.result()
+            reason = said.result().decode().strip()
         if process.returncode not in allowed:
-            raise Ended(f"status {process.returncode} of {tool}: {said.result().decode().strip()}")
+            raise Ended(f"status {process.returncode} of {tool}: {reason}")
         return printed
 
     def first(self) -> tuple[bytes, bytes]:

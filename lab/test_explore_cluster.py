@@ -21,15 +21,10 @@ try:
     import explore_cluster
     import hunt_cluster
     from fingerprints import fingerprints, part_of, rows_of
+    from jugs_tests import ALL, FILTER, FOUR_LITRES, HERE, STATES
     from state_filter import Ended, StateFilter, pack, states_of, unpack
 except ImportError:
     raise unittest.SkipTest("Dask or numpy is not installed") from None
-
-HERE = os.path.dirname(os.path.abspath(__file__))
-FILTER = os.path.join(HERE, "jugs_filter.py")
-STATES = 16
-ALL = (0, f"nothing found: all {STATES} states\n")
-FOUR_LITRES = "fill big\nbig to small\nempty small\nbig to small\nfill big\nbig to small\n"
 
 
 class Clusters(unittest.TestCase):
@@ -63,10 +58,8 @@ class Clusters(unittest.TestCase):
         self.assertIn("level 1 states 3 new 2", err)
         self.assertIn(f"closed: {STATES} states, 2 parts", err)
 
-    def test_shortest_schedule(self) -> None:
+    def test_shortest_schedules(self) -> None:
         self.assertEqual(self.search("4")[:2], (1, FOUR_LITRES))
-
-    def test_a_first_move_that_goes_wrong(self) -> None:
         self.assertEqual(self.search("5")[:2], (1, "fill big\n"))
 
     def test_small_blocks(self) -> None:
@@ -122,16 +115,11 @@ class Clusters(unittest.TestCase):
         self.assertEqual((status, out), (3, ""))
         self.assertIn(reason, err)
 
-    def test_the_certificate_of_a_lost_state(self) -> None:
+    def test_the_certificate(self) -> None:
+        """States that are lost, or changed, before the certificate are found out by it."""
         self.refuses(b"35\n", b"", "the certificate is refused: open: state")
-
-    def test_the_certificate_of_a_lost_first_state(self) -> None:
         self.refuses(b"00\n", b"", "open: the first state is not in the set")
-
-    def test_the_certificate_of_another_state(self) -> None:
         self.refuses(b"35\n", b"11\n", "the certificate is refused: open: state")
-
-    def test_the_certificate_of_a_damaged_line(self) -> None:
         self.refuses(b"35\n", b"~~\n", "fault 2")
 
     def test_the_certificate_of_a_lost_block(self) -> None:
@@ -242,11 +230,9 @@ class Tasks(unittest.TestCase):
         with self.assertRaises(Ended):
             states_of(cluster_tasks.check(self.states, self.header, 0, 4, [pack(b"00\n")]), 0, 4)
 
-    def test_a_damaged_block(self) -> None:
+    def test_what_is_refused(self) -> None:
         with self.assertRaises(Ended):
             cluster_tasks.expand(self.states, self.header, 0, [pack(b"~~\n")])
-
-    def test_refused_words(self) -> None:
         with self.assertRaises(Ended):
             StateFilter(FILTER, ("--wanted", "many")).first()
 

@@ -1,16 +1,13 @@
 """Tests of explore_sorted.py, with the states of two jugs. Run by `python3 -m unittest` in this folder."""
 
 import contextlib
-import io
 import os
 import resource
 import shutil
-import signal
 import subprocess
 import sys
-import tempfile
 import unittest
-from collections.abc import Callable, Iterable, Iterator
+from collections.abc import Callable, Iterable
 from unittest import mock
 
 try:
@@ -18,51 +15,22 @@ try:
 
     import explore_sorted
     import fingerprints
+    import search_folder
     import state_filter
+    from jugs_tests import ALL, FILTER, FOUR_LITRES, HERE, STATES, JugsTest
     from state_filter import Ended, pack, unpack, with_whole_paths
 except ImportError:
     raise unittest.SkipTest("numpy is not installed") from None
 
-HERE = os.path.dirname(os.path.abspath(__file__))
-FILTER = os.path.join(HERE, "jugs_filter.py")
-STATES = 16  # Of two jugs of 3 and 5 litres one is empty or full: 2 * 4 + 2 * 6 - 4.
-ALL = (0, f"nothing found: all {STATES} states\n")
-FOUR_LITRES = "fill big\nbig to small\nempty small\nbig to small\nfill big\nbig to small\n"
 LEVEL = explore_sorted.name_of
 
-Spoil = Callable[[explore_sorted.Search], None]
 
-
-def change(search: explore_sorted.Search, old: bytes, new: bytes) -> None:
-    """Changes the first line that ends so in the levels of a search."""
-    for depth in range(len(search.levels)):
-        text = unpack(search.folder.read(LEVEL(depth)))
-        if old in text:
-            search.folder.write(LEVEL(depth), [pack(text.replace(old, new, 1))])
-            return
-    raise AssertionError(f"no level has {old!r}")
-
-
-class Searches(unittest.TestCase):
-    def setUp(self) -> None:
-        self.folder = tempfile.mkdtemp()
-        self.addCleanup(shutil.rmtree, self.folder)
+class Searches(JugsTest):
+    main = explore_sorted.main
+    kind = explore_sorted.Search
 
     def search(self, wanted: str, *options: str, folder: str | None = None) -> tuple[int, str, str]:
-        """The exit status, and what is printed."""
-        out, err = io.StringIO(), io.StringIO()
-        with contextlib.redirect_stdout(out), contextlib.redirect_stderr(err):
-            places = ["--rmelab", FILTER, "--folder", folder or self.folder]
-            status = explore_sorted.main([*places, *options, "--", "--wanted", wanted])
-        return status, out.getvalue(), err.getvalue()
-
-    def fails(self, reason: str, *options: str) -> None:
-        status, out, err = self.search("9", *options)
-        self.assertEqual((status, out), (3, ""))
-        self.assertIn(reason, err)
-
-    def at(self, name: str) -> str:
-        return os.path.join(self.folder, name)
+        return self.printed(explore_sorted.main, *options, words=[wanted], folder=folder)
 
     def test_all_states(self) -> None:
         status, out, err = self.search("9")
@@ -70,14 +38,12 @@ class Searches(unittest.TestCase):
         self.assertIn("level 1 states 3 new 2", err)
         self.assertIn(f"closed: {STATES} states, part 0 of 1, sha256 ", err)
 
-    def test_shortest_schedule(self) -> None:
+    def test_shortest_schedules(self) -> None:
         self.assertEqual(self.search("4")[:2], (1, FOUR_LITRES))
-
-    def test_a_first_move_that_goes_wrong(self) -> None:
-        self.assertEqual(self.search("5")[:2], (1, "fill big\n"))
+        self.assertEqual(self.search("5", folder=self.at("5"))[:2], (1, "fill big\n"))
 
     def test_small_blocks_side_by_side(self) -> None:
-        with mock.patch.object(explore_sorted, "BLOCK", 1):
+        with mock.patch.multiple(explore_sorted, FEWEST=1, MOST=1):
             self.assertEqual(self.search("9", "--parallel", "3")[:2], ALL)
             self.assertEqual(self.search("4", "--parallel", "3", folder=self.at("4"))[:2], (1, FOUR_LITRES))
 
@@ -87,34 +53,16 @@ class Searches(unittest.TestCase):
             with open(self.at(LEVEL(0)), "rb") as file:
                 self.assertEqual(file.read(2), b"\x1f\x8b")
 
-    def test_parts(self) -> None:
-        status, _, err = self.search("9", "--parts", "3", "--parallel", "2")
-        self.assertEqual((status, err.count("closed:")), (0, 3))
-
     def test_refused_words(self) -> None:
         status, out, err = self.search("many")
         self.assertEqual((status, out), (2, ""))
         self.assertIn("--wanted", err)
-
-    def test_another_search(self) -> None:
         self.search("9")
         self.assertEqual(self.search("4"), (2, "", "another search is in this folder\n"))
 
-    def stop_at(self, level: int, folder: str | None = None) -> None:
-        """Searches up to the expansion of a level."""
-        successors = explore_sorted.Search.successors
-
-        def stopped(search: explore_sorted.Search) -> Iterator[bytes]:
-            yield from successors(search)
-            if len(search.levels) - 1 == level:
-                raise Ended("stopped")
-
-        with mock.patch.object(explore_sorted.Search, "successors", stopped):
-            self.assertEqual(self.search("9", folder=folder)[0], 3)
-
     def test_goes_on(self) -> None:
         """Stopped in each level, also in the midst of a line of the ledger, it goes on to the same answer."""
-        for stop in range(8):
+        for stop in range(1, 9):
             folder = self.at(str(stop))
             self.stop_at(stop, folder)
             with open(os.path.join(folder, "ledger"), "a", encoding="ascii") as ledger:
@@ -131,65 +79,32 @@ class Searches(unittest.TestCase):
         self.assertEqual(self.search("9")[:2], ALL)
 
     def test_a_killed_filter(self) -> None:
-        """Each run of the filter that is killed ends the search by its name; begun anew it goes on."""
-        run = subprocess.Popen
-        runs = 0
-
-        def dies(*arguments: object, **named: object) -> subprocess.Popen[bytes]:
-            nonlocal runs
-            runs += 1
-            process = run(*arguments, **named)  # type: ignore[call-overload]
-            if runs == 4:
-                process.send_signal(signal.SIGKILL)
-            return process
-
-        with mock.patch.object(state_filter.subprocess, "Popen", dies):
-            self.fails("status -9 of expand")
+        """A run of the filter that is killed ends the search by its name; begun anew it goes on."""
+        for tool, which in (("expand", 3), ("check", 1)):
+            with self.killed(tool, which):
+                self.fails(f"status -9 of {tool}")
         self.assertEqual(self.search("9")[:2], ALL)
 
-    def test_a_lost_line(self) -> None:
+    def test_a_lost_or_damaged_line(self) -> None:
         """A level that has lost a line is found out, not taken for a smaller search."""
         for digest in (True, False):
             self.spoil_stopped(lambda text: text[:-3], "level.2", digest)
-
-    def test_a_damaged_line(self) -> None:
         self.spoil_stopped(lambda text: text[:-3] + b"~~\n", "is not the file that was written", True)
         self.spoil_stopped(lambda text: text[:-3] + b"~~\n", "fault 2", False)
         self.spoil_stopped(lambda text: text[:-1], "a line is cut off", False)
 
     def spoil_stopped(self, spoil: Callable[[bytes], bytes], reason: str, digest: bool) -> None:
         """A level's lines are spoiled while the search is stopped: with digests, and where these are made to agree."""
-        shutil.rmtree(self.folder)
-        os.makedirs(self.folder)
-        self.stop_at(2)
-        with open(self.at(LEVEL(2)), "rb") as file:
-            text = spoil(unpack(file.read()))
-        with open(self.at(LEVEL(2)), "wb") as file:
-            file.write(pack(text))
-        patched = mock.patch.object(explore_sorted.Folder, "digest", lambda folder, name: level_digest(self.folder, name))
-        with contextlib.nullcontext() if digest else patched:
+        self.renew()
+        self.stop_at(3)
+        folder = search_folder.Folder(self.folder)
+        folder.write(LEVEL(2), [pack(spoil(unpack(folder.read(LEVEL(2)))))])
+        with contextlib.nullcontext() if digest else mock.patch.object(search_folder.Folder, "demand"):
             self.fails(reason)
 
-    def test_a_damaged_file(self) -> None:
-        self.stop_at(3)
-        path = self.at(LEVEL(2))
-        with open(path, "rb") as file:
-            packed = file.read()
-        for spoiled in (packed[:-5], packed[:-1] + bytes([packed[-1] ^ 1]), b""):
-            with open(path, "wb") as file:
-                file.write(spoiled)
-            self.fails(f"{LEVEL(2)} is not the file that was written")
-        with open(path, "wb") as file:
-            file.write(packed)
-        self.assertEqual(self.search("9")[:2], ALL)
-
-    def test_a_lost_level(self) -> None:
-        self.stop_at(3)
-        os.remove(self.at(LEVEL(1)))
-        self.fails("No such file")
-
-    def test_swapped_levels(self) -> None:
-        self.stop_at(4)
+    def test_damaged_and_swapped_files(self) -> None:
+        self.stop_at(5)
+        self.check_damage(LEVEL(1), LEVEL(2))
         os.rename(self.at(LEVEL(2)), self.at("other"))
         os.rename(self.at(LEVEL(3)), self.at(LEVEL(2)))
         os.rename(self.at("other"), self.at(LEVEL(3)))
@@ -197,7 +112,7 @@ class Searches(unittest.TestCase):
 
     def test_two_states_with_one_fingerprint(self) -> None:
         """One of them is lost, and the certificate finds it out. Other fingerprints find all."""
-        numbers = explore_sorted.fingerprints
+        numbers = fingerprints.fingerprints
 
         def alike(rows: fingerprints.Rows, salt: int) -> fingerprints.Numbers:
             found = numbers(rows, salt)
@@ -206,39 +121,20 @@ class Searches(unittest.TestCase):
                 found[(rows[:, :2] == numpy.frombuffer(b"04", numpy.uint8)).all(axis=1)] = 7
             return found
 
-        with mock.patch.object(fingerprints, "fingerprints", alike), mock.patch.object(explore_sorted, "fingerprints", alike):
+        with mock.patch.object(fingerprints, "fingerprints", alike):
             self.fails("the certificate is refused: open: state")
             self.assertEqual(self.search("9", "--salt", "1", folder=self.at("1"))[:2], ALL)
-
-    def spoiled(self, spoil: Spoil, *options: str) -> tuple[int, str, str]:
-        """A search that finds all states, in whose folder something is spoiled before they are checked."""
-        certify = explore_sorted.Search.certify
-
-        def certifies(search: explore_sorted.Search) -> None:
-            spoil(search)
-            certify(search)
-
-        with mock.patch.object(explore_sorted.Search, "certify", certifies):
-            return self.search("9", *options)
-
-    def refuses(self, spoil: Spoil, reason: str, *options: str) -> None:
-        """Something that is spoiled before the states are checked is found out."""
-        status, out, err = self.spoiled(spoil, *options)
-        self.assertEqual((status, out), (3, ""))
-        self.assertIn(reason, err)
-        shutil.rmtree(self.folder)
-        os.makedirs(self.folder)
 
     def test_the_certificate(self) -> None:
         """What is lost or changed before the certificate is refused by it, whole and in parts."""
         refused = "the certificate is refused: open: state"
         for options in ((), ("--parts", "3")):
-            self.refuses(lambda search: change(search, b"35\n", b""), refused, *options)
-            self.refuses(lambda search: change(search, b"35\n", b"11\n"), refused, *options)
-            self.refuses(lambda search: change(search, b"00\n", b""), "open: the first state is not in the set", *options)
-            self.refuses(lambda search: change(search, b"35\n", b"~~\n"), "fault 2", *options)
+            self.refuses(lambda _: self.change(LEVEL(2), b"35\n", b""), refused, *options)
+            self.refuses(lambda _: self.change(LEVEL(2), b"35\n", b"11\n"), refused, *options)
+            self.refuses(lambda _: self.change(LEVEL(0), b"00\n", b""), "open: the first state is not in the set", *options)
+            self.refuses(lambda _: self.change(LEVEL(2), b"35\n", b"~~\n"), "fault 2", *options)
             twice = f"the certificate is of {STATES + 1} states, not {STATES}"
-            self.refuses(lambda search: change(search, b"35\n", b"35\n35\n"), twice, *options)
+            self.refuses(lambda _: self.change(LEVEL(2), b"35\n", b"35\n35\n"), twice, *options)
 
     def test_the_certificate_of_lost_levels(self) -> None:
         self.refuses(lambda search: os.remove(search.folder.at(LEVEL(3))), "No such file")
@@ -247,14 +143,14 @@ class Searches(unittest.TestCase):
 
     def test_the_certificate_goes_on(self) -> None:
         """Stopped before the last part, it goes on with that. What was said of another text is asked again."""
-        check = explore_sorted.Search.check_part
+        check = search_folder.Certificate.check_part
 
-        def stopped(search: explore_sorted.Search, part: int) -> tuple[int, str]:
+        def stopped(certificate: search_folder.Certificate, part: int) -> tuple[int, str]:
             if part == 2:
                 raise Ended("stopped")
-            return check(search, part)
+            return check(certificate, part)
 
-        with mock.patch.object(explore_sorted.Search, "check_part", stopped):
+        with mock.patch.object(search_folder.Certificate, "check_part", stopped):
             self.assertEqual(self.search("9", "--parts", "3")[0], 3)
         status, _, err = self.search("9", "--parts", "3")
         self.assertEqual((status, err.count("closed:")), (0, 1))
@@ -301,12 +197,6 @@ class Searches(unittest.TestCase):
         self.assertEqual(words, ("--algorithm", os.path.abspath("a.lock"), "--procs", "2"))
 
 
-def level_digest(folder: str, name: str) -> str:
-    """The digest that the ledger in a folder has of a level."""
-    with open(os.path.join(folder, "ledger"), encoding="ascii") as file:
-        return explore_sorted.Level.from_line(file.readlines()[int(name.split(".")[1])]).sha256
-
-
 class Numbers(unittest.TestCase):
     """Fingerprints, and sets of them."""
 
@@ -326,20 +216,31 @@ class Numbers(unittest.TestCase):
         """The same as a set of Python's."""
         drawn = numpy.random.default_rng(1)
         seen, known = fingerprints.Seen(), set[int]()
-        for _ in range(200):
-            numbers = numpy.unique(drawn.integers(0, 2000, drawn.integers(0, 60), numpy.uint64))
-            marks = seen.add(numbers)
+        for turn in range(200):
+            drawn_now = drawn.integers(0, 2000, drawn.integers(0, 60), numpy.uint64) << numpy.uint64(53)
+            numbers = numpy.unique(drawn_now)
+            marks, more = seen.lacks(numbers), fingerprints.Seen()
             self.assertEqual([int(number) not in known for number in numbers], marks.tolist())
+            if turn % 2:
+                self.assertTrue(more.add(numbers[marks]).all())
+                seen.join(more)
+            else:
+                self.assertEqual(seen.add(numbers).tolist(), marks.tolist())
             known.update(map(int, numbers))
             self.assertEqual(len(seen), len(known))
         self.assertLess(max(len(part.runs) for part in seen.parts), 8)
 
+    def test_lines_by_their_text(self) -> None:
+        rows = fingerprints.rows_of(b"35\n00\n3o\n11\n", 3)
+        self.assertEqual(fingerprints.by_text(rows).tobytes(), b"00\n11\n35\n3o\n")
+        self.assertEqual(fingerprints.by_text(rows[:0]).tobytes(), b"")
+
     def test_each_line_once_in_their_order(self) -> None:
         rows = fingerprints.rows_of(b"35\n00\n35\n11\n00\n", 3)
         lines = fingerprints.Lines.of(rows, 0)
-        self.assertEqual(lines.text(numpy.ones(3, numpy.bool_)), b"35\n00\n11\n")
+        self.assertEqual(lines.marked(numpy.ones(3, numpy.bool_)).tobytes(), b"35\n00\n11\n")
         marks = lines.numbers != fingerprints.fingerprints(rows[1:2], 0)[0]
-        self.assertEqual(lines.text(marks), b"35\n11\n")
+        self.assertEqual(lines.marked(marks).tobytes(), b"35\n11\n")
 
     def test_lines_that_are_cut_off(self) -> None:
         for text in (b"00\n1", b"00\n1\n1", b"000\n0\n"):

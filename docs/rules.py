@@ -77,7 +77,7 @@ ONE_PLACE = [
     ("the crates", r"\| `redomail` \| The mailbox: a redo", ARCHITECTURE),
     ("the instructions of a lock", r"\| 64 \| 2,619 \|", "docs/dev/performance.md"),
     ("the shortest schedules of the variants", r"\| no-ties \| 2 \| lock, unlock", "bench/explore/README.md"),
-    ("what the gate costs", r"44.5 minutes", "docs/dev/performance.md"),
+    ("what the gate costs", r"47.6 minutes", "docs/dev/performance.md"),
     ("what an order of stores has to keep", r"`xchg`", "docs/theory/trust.md"),
     ("the signs of a drawing", r"`#` section, a space for dead", "docs/dev/texts.md"),
 ]

@@ -17,7 +17,6 @@ starve nobody\n\
 == szymanski 2 1 0 none\n--\n86 worlds\n\
 == szymanski 3 1 0 none\n--\n1791 worlds\n\
 == bakery 2 3 0 none\n--\n527 worlds\n\
-== bakery_1974 2 3 0 none\n--\n269 worlds\n\
 == no_look 2 3 0 none\n--\n547 worlds\n\
 == peterson 2 1 1 none\n--\n266 worlds\n\
 == recoverable_peterson 2 1 1 none\n--\n432 worlds\n\
@@ -25,7 +24,6 @@ starve nobody\n\
 == dekker 2 1 1 none\n--\n382 worlds\n\
 == szymanski 2 1 1 none\n--\n360 worlds\n\
 == bakery 2 3 1 none\n--\n2790 worlds\n\
-== bakery_1974 2 3 1 none\n--\n1253 worlds\n\
 ";
 
 pub const SOMEBODY: &str = "\
@@ -39,6 +37,15 @@ starve somebody\n\
 == no_turn 2 1 1 none\n--\n0 starves, stem 4, cycle 2\n\
 == lamport_fast 2 1 1 none\n--\n0 starves, stem 11, cycle 1\n\
 == one_word 2 1 1 none\n--\n0 starves, stem 5, cycle 1\n\
+";
+
+/// Whose step is refused for a value out of range goes on as one that waits.
+pub const REFUSED: &str = "\
+starve at a bound\n\
+== bakery_1974 2 3 0 none\n--\n0 starves, stem 26, cycle 2\n\
+== bakery_1974 2 3 1 none\n--\n0 starves, stem 22, cycle 2\n\
+== unlinked_mcs 2 1 0 none\n--\n0 starves, stem 12, cycle 2\n\
+== mcs_no_wait 2 1 0 none\n--\n0 starves, stem 12, cycle 2\n\
 ";
 
 /// Of the Bakery a process starves only where another gives up: it is out of numbers, or it withdraws or recovers.

@@ -75,6 +75,7 @@ fn claims_named(name: &str) -> &'static [u8] {
         promises::CROSSED_FLAGS,
         promises::FAIR_TEST_AND_SET,
         promises::FREE_TEST_AND_SET,
+        promises::MCS_NO_WAIT,
         promises::SEMAPHORE_2,
         queues::DHOKED_MITTAL,
         queues::RECOVERABLE_CLH,

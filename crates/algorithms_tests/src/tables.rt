@@ -130,13 +130,14 @@ const SEARCHED: [&str; 15] = [
 ];
 
 /// Searches for a stuck state, for a process that starves, and for costs.
-const WAITED: [&str; 12] = [
+const WAITED: [&str; 13] = [
     costs::COSTS,
     mean_costs::TOTALS,
     starving::AT_LENGTH,
     starving::NOBODY,
     starving::PROMISED,
     starving::QUITTERS,
+    starving::REFUSED,
     starving::SOMEBODY,
     stuck::NEVER,
     stuck::STUCK,

@@ -16,7 +16,7 @@ test_and_test_and_set ticket board counter mcs_nil named narrow seats owner turn
 bounded golab_ramaraju yang_anderson homes clh corner golab_ramaraju_tournament peterson_tournament \
 table filter stairs bounded_peterson bounded_test_and_set bounded_ticket hurried_ticket \
 instant_test_and_set mcs_exit_3 ticket_exit_1 ticket_exit_2 begun_ticket claimed_ticket kept_ticket \
-linked_mcs unlinked_mcs crossed_flags fair_test_and_set free_test_and_set \
+linked_mcs unlinked_mcs crossed_flags fair_test_and_set free_test_and_set mcs_no_wait \
 jayanti_jayanti_joshi jayanti_jayanti_joshi_two_nodes semaphore_2";
 
 /// A text as it is written: blocks that end in lines to which no run comes, gotos at the end of an `if`, and brackets.

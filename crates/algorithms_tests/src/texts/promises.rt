@@ -199,6 +199,37 @@ call unlock
   done
 ";
 
+/// MCS whose exit looks once for its successor, and does not wait: a bound is met.
+pub const MCS_NO_WAIT: &[u8] = br"algorithm mcs_no_wait for 1 to 64 processes
+promises exclusion, order, deadlock freedom
+constant nil = procs
+shared tail up to nil starts nil
+shared next[procs] up to nil starts nil
+shared locked[procs] up to 1
+call lock
+  next[me] := nil                       this is begin
+  pred := swap tail to me               this is ready
+  if pred != nil then
+    locked[me] := 1
+    next[pred] := me
+    await l := locked[me] until l = 0
+  end
+  this is enter
+  done
+call unlock
+  n := next[me]
+  if n = nil then
+    t := swap tail to nil if t = me
+    if t = me then
+      this is leave
+      done
+    end
+    n := next[me]
+  end
+  locked[n] := 0                        this is leave
+  done
+";
+
 pub const SEMAPHORE_2: &[u8] =
     br"# Dijkstra 1965, a semaphore for two: taken counts those inside. A process may starve, and a crash inside holds one place for ever.
 algorithm semaphore_2 for 1 to 64 processes

@@ -2,7 +2,8 @@
 
 /// `TWO_AT_ONCE`: both read that nobody holds it before either has stored. `CRASH_INSIDE`: process 0 dies inside, comes back and
 /// gives way, and process 1 enters; `CRASH_OF_ALL`: so it does where all die. `STARVES`: process 1 sees the flag of process 0 each time. `OUT_OF_NUMBERS`: process 1 waits for no
-/// number, process 0 for its doorway. `OUT_OF_RANGE`: the second entry is counted as 2. `LEFT_HELD`: process 0 waits for itself. `THIRD_INSIDE`: a third enters where two may be inside. `NO_MAILBOX`: the options of a
+/// number, process 0 for its doorway. `OUT_OF_RANGE`: the second entry is counted as 2. `NO_WAIT`: who leaves finds
+/// no successor, and waits for none. `LEFT_HELD`: process 0 waits for itself. `THIRD_INSIDE`: a third enters where two may be inside. `NO_MAILBOX`: the options of a
 /// variant's search alone.
 pub const TEXTS: &str = "
 @text CRASH_INSIDE
@@ -165,6 +166,24 @@ step 0
 step 0
 @text LINE_11
 rmelab: line 11: refused 16
+@text NO_WAIT
+rme 1 procs 2 limit 4 cap 1
+lock 0
+step 0
+step 0
+unlock 0
+step 0
+lock 1
+step 1
+step 1
+step 0
+step 0
+step 1
+step 1
+step 0
+step 1
+@text LINE_14
+rmelab: line 14: refused 16
 @text OUT_OF_RANGE_ALONE
 rme 1 procs 1 limit 1 cap 1
 lock 0
@@ -296,8 +315,44 @@ nothing found
 @row rmelab explore --algorithm a.lock --procs 2 --limit 1 --starving any --jobs 2 @file a.lock BURNS @out STARVES @ends 1
 @row rmelab explore --algorithm a.lock --procs 2 --limit 1 --starving nobody --states 58 @file a.lock PETERSON @out
 never starving: all 58 states
-@row rmelab explore --algorithm a.lock --procs 2 --limit 3 --starving @file a.lock BAKERY_1974 @out
-never starving: all 269 states
+@row rmelab explore --algorithm a.lock --procs 2 --limit 1 --starving @file a.lock BAKERY_1974 @ends 1 @out
+rme 1 procs 2 limit 1 cap 1
+lock 0
+step 0
+step 0
+step 0
+step 0
+lock 1
+step 1
+step 1
+step 0
+step 1
+starves 0 cycle 2
+@row rmelab explore --algorithm a.lock --procs 2 @file a.lock MCS_NO_WAIT @ends 1 @out
+nothing found: all 95 states, 6 moves left out from line 27
+rme 1 procs 2 limit 4 cap 1
+lock 0
+step 0
+step 0
+unlock 0
+step 0
+lock 1
+step 1
+step 1
+step 0
+step 0
+step 1
+step 1
+step 0
+step 1
+starves 0 cycle 2
+@row rmelab replay --algorithm a.lock @in NO_WAIT @file a.lock MCS_NO_WAIT @ends 2 @err LINE_14 @out
+begin 0
+ready 0
+enter 0
+answer 0 done
+begin 1
+ready 1
 @row rmelab explore --algorithm a.lock --procs 2 --limit 1 --jobs 3 @file a.lock FREE_TEST_AND_SET @out
 nothing found: all 12 states
 never starving: all 12 states

@@ -23,7 +23,7 @@ error: there is neither '--variant <V>' nor '--algorithm <FILE>'
 For more information, try '--help'.
 ";
 
-const ALGORITHMS: [(&str, &[u8]); 8] = [
+const ALGORITHMS: [(&str, &[u8]); 9] = [
     ("PETERSON", others::PETERSON),
     ("ONE_WORD", others::ONE_WORD),
     ("NO_LOOK", bakeries::NO_LOOK),
@@ -32,6 +32,7 @@ const ALGORITHMS: [(&str, &[u8]); 8] = [
     ("BURNS", others::BURNS),
     ("FREE_TEST_AND_SET", promises::FREE_TEST_AND_SET),
     ("FAIR_TEST_AND_SET", promises::FAIR_TEST_AND_SET),
+    ("MCS_NO_WAIT", promises::MCS_NO_WAIT),
 ];
 
 /// The text of the algorithm with this name.

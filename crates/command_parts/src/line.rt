@@ -39,6 +39,22 @@ fn line_of_place(at: u64, cause: &str, number: u64) -> ArrayString<128>
     line
 }
 
+/// The line for an input line that is refused, since a value would leave its range at a line of the algorithm's text.
+fn line_of_range(at: u64, algorithm_line: u64) -> ArrayString<128>
+    ensures { result.bytes ≡ codes "rmelab: line " ++ decimal at ++ codes ": refused 16: out of range at algorithm line "
+        ++ decimal algorithm_line ++ 10 ∷ [] }
+{
+    let mut line = ArrayString::new();
+    put(&mut line, "rmelab: line ", at);
+    put(
+        &mut line,
+        ": refused 16: out of range at algorithm line ",
+        algorithm_line,
+    );
+    line.push_str("\n");
+    line
+}
+
 /// The line for a fault of a line of an algorithm's text.
 fn line_of_algorithm(at: u64, fault: ReadFault) -> ArrayString<128>
     ensures { result.bytes ≡ codes "rmelab: algorithm line " ++ decimal at ++ codes ": fault " ++ decimal (number_of_text_fault fault)
@@ -106,6 +122,10 @@ pub fn line_of(fault: CommandFault) -> ArrayString<128>
     match fault {
         CommandFault::Text { line, number } => line_of_place(line, ": fault ", number),
         CommandFault::Refused { line, number } => line_of_place(line, ": refused ", number),
+        CommandFault::OutOfRange {
+            line,
+            algorithm_line,
+        } => line_of_range(line, algorithm_line),
         CommandFault::Algorithm { line, fault } => line_of_algorithm(line, fault),
         CommandFault::States { line, fault } => line_of_states(line, fault),
         CommandFault::Image { rule } => line_around("rmelab: image: rule ", rule, "\n"),

@@ -35,6 +35,14 @@ impl Judge {
         Judge { phases: [Phase::Out; 3], ahead: [0; 3], counts: [0; 3], shown: 0, pending: None, closed: false, ruined: false }
     }
 
+    pub fn encode(&self, procs: u8, w: &mut Vec<u64>) {
+        let n = procs as usize;
+        w.extend(self.phases[..n].iter().map(|p| *p as u64));
+        w.extend(self.ahead[..n].iter().map(|p| *p as u64));
+        w.extend(self.counts[..n].iter().map(|p| *p as u64));
+        w.extend([self.shown as u64, self.closed as u64, self.ruined as u64, 0]);
+    }
+
     fn pass(&mut self, p: u8, phase: Phase) {
         for row in &mut self.ahead {
             *row &= !(1 << p);

@@ -45,7 +45,7 @@ enum Change {
 
 #[derive(Clone, Copy, PartialEq, Eq, Hash)]
 pub struct VariantProcess {
-    process: Process,
+    pub process: Process,
     detour: Detour,
     change: Change,
 }

@@ -15,11 +15,11 @@ pub enum Deed {
 /// Three lock words of each of at most three processes, the data words, and the private memories.
 #[derive(Clone, PartialEq, Eq, Hash)]
 pub struct World {
-    choosing: [u8; 3],
-    number: [u8; 3],
-    inside: [u8; 3],
-    cells: [u8; 24],
-    processes: [VariantProcess; 3],
+    pub choosing: [u8; 3],
+    pub number: [u8; 3],
+    pub inside: [u8; 3],
+    pub cells: [u8; 24],
+    pub processes: [VariantProcess; 3],
 }
 
 impl World {

@@ -1,18 +1,21 @@
 //! Reads the words of `cost`.
 
-ghost use Rattle.std.specs.Prelude.{◌≡◌, ◌≢◌, ◌↔◌, true, Some, IfOk, IfSome, IsNone, IsErrOf, OnErr, codes};
+ghost use Rattle.std.specs.Prelude.{◌≡◌, ◌≢◌, ◌↔◌, true, IfOk, IfSome, IsNone, IsSome, codes};
 ghost use Rattle.clap.specs.Words.{first_of};
 ghost use Rattle.algorithms.specs.declared.remote_references.memory_model.MemoryModel.{MemoryModel as AnyModel};
 ghost use Rattle.cli.specs.Given.{given_in, kind_asked, word_of_model, AsksForModel, AsksForNoModel};
-ghost use Rattle.cli.specs.ReadWords.{HasNoRounds, HasNoSearch, ReadsCommand, cost_rounds_of, cost_steps_of};
-ghost use Rattle.cli.specs.Sizes.{IsHuntSize, IsInRanges};
+ghost use Rattle.cli.specs.ReadWords.{HasNoRounds, HasNoSearch, ReadsCommand};
+ghost use Rattle.cli.specs.Sizes.{IsInRanges};
 
 use crate::arguments::args::{Command, CostArgs, MeanCostArgs};
 use crate::arguments::explore_words::algorithm_search;
-use crate::arguments::words::{WordsFault, is_given, is_set, number_of, number_or, str_of};
+use crate::arguments::hunt_words::sizes_of;
+use crate::arguments::words::{
+    WordsFault, error_text, given_text, is_given, is_set, number_of, number_or, str_of,
+};
 use algorithms::{MemoryModel, PassageKind};
 use clap::ArgMatches;
-use std::alloc::{AllocError, Global};
+use std::alloc::Global;
 
 /// The model of this name.
 fn model_named(name: &str) -> Option<MemoryModel>
@@ -49,21 +52,9 @@ fn passage_kind_of(matches: &ArgMatches<'_>) -> PassageKind
     }
 }
 
-/// The error text where there is no algorithm.
-fn without_algorithm(alloc: Global) -> Result<String, AllocError> {
-    String::from_str(
-        alloc,
-        "error: there is no '--algorithm <FILE>'\n\nFor more information, try '--help'.\n",
-    )
-}
-
-/// The error text where an option does not go with `--mean`, or only with it.
-fn without_options(alloc: Global) -> Result<String, AllocError> {
-    String::from_str(
-        alloc,
-        "error: with '--mean' there is no '--super-passages', no '--calls', no '--crashes', no '--system-crashes' and no '--states', and without it no '--seed', no '--rounds' and no '--steps'\n\nFor more information, try '--help'.\n",
-    )
-}
+/// What is wrong where an option does not go with `--mean`, or only with it.
+const NO_OPTIONS: &str =
+    "with '--mean' there is no '--super-passages', no '--calls', no '--crashes', no '--system-crashes' and no '--states', and without it no '--seed', no '--rounds' and no '--steps'";
 
 /// Whether the greatest cost is asked for, and no option of random schedules is given.
 fn has_no_rounds(matches: &ArgMatches<'_>) -> bool
@@ -87,31 +78,10 @@ fn has_no_search(matches: &ArgMatches<'_>) -> bool
         && !is_given(matches, "states")
 }
 
-/// The rounds and the moves of each, if they are in their ranges.
-fn rounds_of(matches: &ArgMatches<'_>) -> Result<(u64, u64), WordsFault>
-    ensures given { IfOk result (λ sizes. (sizes.0 ≡ cost_rounds_of (given_in matches.now))
-        × (sizes.1 ≡ cost_steps_of (given_in matches.now))) }
-    ensures fits { IfOk result (λ sizes. IsHuntSize sizes.0 sizes.1) }
-    ensures bad { OnErr result (IsErrOf result WordsFault.BadSize
-        × (IsHuntSize (cost_rounds_of (given_in matches.now)) (cost_steps_of (given_in matches.now)) → ⊥)) }
-{
-    let rounds = number_or(matches, "rounds", 100);
-    let steps = number_or(matches, "steps", 1000);
-    if (1..=10_000).contains(&rounds) && (1..=10_000).contains(&steps) {
-        Ok((rounds, steps))
-    } else {
-        Err(WordsFault::BadSize)
-    }
-}
-
 /// The mean cost of the algorithm with this text. `BadSize`: there is no such model, or a number is outside its range.
 #[tactic(auto, using(crate::proofs::Answered::mean_refused, crate::proofs::Answered::mean_model_refused))]
-fn mean_words(
-    alloc: Global,
-    matches: &ArgMatches<'_>,
-    algorithm: &str,
-) -> Result<Command, WordsFault>
-    requires algorithm { Some algorithm.now ≡ first_of (codes "algorithm") (given_in matches.now) }
+fn mean_words(alloc: Global, matches: &ArgMatches<'_>) -> Result<Command, WordsFault>
+    requires algorithm { IsSome (first_of (codes "algorithm") (given_in matches.now)) }
     requires alone { IsNone (first_of (codes "variant") (given_in matches.now)) }
     requires options { HasNoSearch (given_in matches.now) }
     ensures sized { IfOk result IsInRanges }
@@ -120,9 +90,10 @@ fn mean_words(
     let Some(model) = model_of(matches) else {
         return Err(WordsFault::BadSize);
     };
-    let (rounds, steps) = rounds_of(matches)?;
+    let asked = number_or(matches, "rounds", 100);
+    let (rounds, steps) = sizes_of(asked, number_or(matches, "steps", 1000))?;
     Ok(Command::MeanCost(MeanCostArgs {
-        algorithm: String::from_str(alloc, algorithm)?,
+        algorithm: given_text(alloc, matches, "algorithm")?,
         model,
         procs: number_of(matches, "procs"),
         limit: number_or(matches, "limit", 1_000_000),
@@ -134,18 +105,14 @@ fn mean_words(
 
 /// The greatest cost of the algorithm with this text. `BadSize`: there is no such model.
 #[tactic(auto, using(crate::proofs::Answered::cost_refused, crate::proofs::Answered::model_refused))]
-fn greatest_words(
-    alloc: Global,
-    matches: &ArgMatches<'_>,
-    algorithm: &str,
-) -> Result<Command, WordsFault>
-    requires algorithm { Some algorithm.now ≡ first_of (codes "algorithm") (given_in matches.now) }
+fn greatest_words(alloc: Global, matches: &ArgMatches<'_>) -> Result<Command, WordsFault>
+    requires algorithm { IsSome (first_of (codes "algorithm") (given_in matches.now)) }
     requires alone { IsNone (first_of (codes "variant") (given_in matches.now)) }
     requires options { HasNoRounds (given_in matches.now) }
     ensures sized { IfOk result IsInRanges }
     ensures reads { ReadsCommand (codes "cost") (given_in matches.now) result }
 {
-    let search = algorithm_search(alloc, matches, algorithm)?;
+    let search = algorithm_search(alloc, matches)?;
     let Some(model) = model_of(matches) else {
         return Err(WordsFault::BadSize);
     };
@@ -158,23 +125,19 @@ fn greatest_words(
 }
 
 /// The costs of the algorithm with this text.
-fn algorithm_words(
-    alloc: Global,
-    matches: &ArgMatches<'_>,
-    algorithm: &str,
-) -> Result<Command, WordsFault>
-    requires algorithm { Some algorithm.now ≡ first_of (codes "algorithm") (given_in matches.now) }
+fn algorithm_words(alloc: Global, matches: &ArgMatches<'_>) -> Result<Command, WordsFault>
+    requires algorithm { IsSome (first_of (codes "algorithm") (given_in matches.now)) }
     requires alone { IsNone (first_of (codes "variant") (given_in matches.now)) }
     ensures sized { IfOk result IsInRanges }
     ensures reads { ReadsCommand (codes "cost") (given_in matches.now) result }
 {
     if has_no_search(matches) {
-        mean_words(alloc, matches, algorithm)
+        mean_words(alloc, matches)
     } else if has_no_rounds(matches) {
-        greatest_words(alloc, matches, algorithm)
+        greatest_words(alloc, matches)
     } else {
         Err(WordsFault::Refused {
-            text: without_options(alloc)?,
+            text: error_text(alloc, NO_OPTIONS)?,
         })
     }
 }
@@ -185,11 +148,9 @@ pub(crate) fn cost_words(alloc: Global, matches: &ArgMatches<'_>) -> Result<Comm
     ensures reads { ReadsCommand (codes "cost") (given_in matches.now) result }
 {
     match str_of(matches, "algorithm") {
-        Some(algorithm) if !is_given(matches, "variant") => {
-            algorithm_words(alloc, matches, algorithm)
-        }
+        Some(_) if !is_given(matches, "variant") => algorithm_words(alloc, matches),
         Some(_) | None => Err(WordsFault::Refused {
-            text: without_algorithm(alloc)?,
+            text: error_text(alloc, "there is no '--algorithm <FILE>'")?,
         }),
     }
 }

@@ -1,24 +1,20 @@
 //! Reads the words of `draw`.
 
-ghost use Rattle.std.specs.Prelude.{◌≡◌, Some, IsNone, codes};
+ghost use Rattle.std.specs.Prelude.{IsNone, IsSome, codes};
 ghost use Rattle.clap.specs.Words.{first_of};
 ghost use Rattle.cli.specs.Given.{given_in};
 ghost use Rattle.cli.specs.ReadWords.{ReadsCommand};
 
 use crate::arguments::args::{AlgorithmDrawArgs, Command, DrawArgs};
 use crate::arguments::words::{
-    WordsFault, is_alone, is_set, str_of, text_of, variant_beside_image,
+    WordsFault, given_text, is_alone, is_set, str_of, text_of, variant_beside_image,
 };
 use clap::ArgMatches;
 use std::alloc::Global;
 
 /// A drawing of a run of the algorithm with this text.
-fn algorithm_words(
-    alloc: Global,
-    matches: &ArgMatches<'_>,
-    algorithm: &str,
-) -> Result<Command, WordsFault>
-    requires { Some algorithm.now ≡ first_of (codes "algorithm") (given_in matches.now) }
+fn algorithm_words(alloc: Global, matches: &ArgMatches<'_>) -> Result<Command, WordsFault>
+    requires { IsSome (first_of (codes "algorithm") (given_in matches.now)) }
     ensures { ReadsCommand (codes "draw") (given_in matches.now) result }
 {
     if !is_alone(matches) {
@@ -26,7 +22,7 @@ fn algorithm_words(
     }
     let html = is_set(matches, "html");
     Ok(Command::DrawAlgorithm(AlgorithmDrawArgs {
-        algorithm: String::from_str(alloc, algorithm)?,
+        algorithm: given_text(alloc, matches, "algorithm")?,
         html,
         svg: is_set(matches, "svg"),
         file: text_of(alloc, matches, "FILE")?,
@@ -52,7 +48,7 @@ pub(crate) fn draw_words(alloc: Global, matches: &ArgMatches<'_>) -> Result<Comm
     ensures { ReadsCommand (codes "draw") (given_in matches.now) result }
 {
     match str_of(matches, "algorithm") {
-        Some(algorithm) => algorithm_words(alloc, matches, algorithm),
+        Some(_) => algorithm_words(alloc, matches),
         None => variant_words(alloc, matches),
     }
 }

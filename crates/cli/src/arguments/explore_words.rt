@@ -11,7 +11,8 @@ use crate::arguments::args::{
     AlgorithmCalls, AlgorithmExploreArgs, Alphabet, Command, Cycles, ExploreArgs,
 };
 use crate::arguments::words::{
-    WordsFault, is_given, is_set, number_of, number_or, str_of, variant_of, without_lock,
+    NO_LOCK, WordsFault, error_text, given_text, is_given, is_set, number_of, number_or, str_of,
+    variant_of,
 };
 use clap::ArgMatches;
 use std::alloc::{AllocError, Global};
@@ -188,13 +189,9 @@ fn algorithm_calls_of(
     Ok(Some(algorithm_calls_in(&calls)))
 }
 
-/// The error text for an option that a search of an algorithm does not have.
-fn without_mailbox(alloc: Global) -> Result<String, AllocError> {
-    String::from_str(
-        alloc,
-        "error: with '--algorithm <FILE>' there is no '--all-variables', no '--cap' and no '--width'\n\nFor more information, try '--help'.\n",
-    )
-}
+/// What is wrong with an option that a search of an algorithm does not have.
+const NO_MAILBOX: &str =
+    "with '--algorithm <FILE>' there is no '--all-variables', no '--cap' and no '--width'";
 
 /// Whether an algorithm is given, and no option that its search does not have.
 fn is_algorithm_search(matches: &ArgMatches<'_>) -> bool
@@ -210,9 +207,8 @@ fn is_algorithm_search(matches: &ArgMatches<'_>) -> bool
 pub(crate) fn algorithm_search(
     alloc: Global,
     matches: &ArgMatches<'_>,
-    algorithm: &str,
 ) -> Result<AlgorithmExploreArgs, WordsFault>
-    requires { Some algorithm.now ≡ first_of (codes "algorithm") (given_in matches.now) }
+    requires { IsSome (first_of (codes "algorithm") (given_in matches.now)) }
     ensures ok { IfOk result (IsAlgorithmExplore (given_in matches.now)) }
     ensures bad { IfErr result (IsFaultOfSearch (given_in matches.now)) }
 {
@@ -221,7 +217,7 @@ pub(crate) fn algorithm_search(
     }
     if !is_algorithm_search(matches) {
         return Err(WordsFault::Refused {
-            text: without_mailbox(alloc)?,
+            text: error_text(alloc, NO_MAILBOX)?,
         });
     }
     let calls = algorithm_calls_of(alloc, matches)?;
@@ -229,7 +225,7 @@ pub(crate) fn algorithm_search(
     let starving = starving_of(matches)?;
     let jobs = number_of(matches, "jobs");
     Ok(AlgorithmExploreArgs {
-        algorithm: String::from_str(alloc, algorithm)?,
+        algorithm: given_text(alloc, matches, "algorithm")?,
         procs: number_of(matches, "procs"),
         calls,
         crashes: number_of(matches, "crashes"),
@@ -254,7 +250,7 @@ pub(crate) fn variant_search(
 {
     if !is_given(matches, "variant") {
         return Err(WordsFault::Refused {
-            text: without_lock(alloc)?,
+            text: error_text(alloc, NO_LOCK)?,
         });
     }
     let variant = variant_of(matches, "")?;
@@ -284,9 +280,7 @@ pub(crate) fn explore_words(alloc: Global, matches: &ArgMatches<'_>) -> Result<C
     ensures { ReadsCommand (codes "explore") (given_in matches.now) result }
 {
     match str_of(matches, "algorithm") {
-        Some(algorithm) => Ok(Command::ExploreAlgorithm(algorithm_search(
-            alloc, matches, algorithm,
-        )?)),
+        Some(_) => Ok(Command::ExploreAlgorithm(algorithm_search(alloc, matches)?)),
         None => Ok(Command::Explore(variant_search(alloc, matches)?)),
     }
 }

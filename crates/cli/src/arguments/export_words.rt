@@ -1,34 +1,22 @@
 //! Reads the words of `export`.
 
-ghost use Rattle.std.specs.Prelude.{◌≡◌, Some, codes};
+ghost use Rattle.std.specs.Prelude.{IsSome, codes};
 ghost use Rattle.clap.specs.Words.{first_of};
 ghost use Rattle.cli.specs.Given.{given_in};
 ghost use Rattle.cli.specs.ReadWords.{ReadsCommand};
 
 use crate::arguments::args::{Command, ExportArgs};
-use crate::arguments::words::{WordsFault, number_of, number_or, str_of};
+use crate::arguments::words::{WordsFault, error_text, given_text, number_of, number_or, str_of};
 use clap::ArgMatches;
-use std::alloc::{AllocError, Global};
-
-/// The error text where there is no algorithm.
-fn without_promela(alloc: Global) -> Result<String, AllocError> {
-    String::from_str(
-        alloc,
-        "error: there is no '--promela <FILE>'\n\nFor more information, try '--help'.\n",
-    )
-}
+use std::alloc::Global;
 
 /// The model of the algorithm with this text.
-fn promela_words(
-    alloc: Global,
-    matches: &ArgMatches<'_>,
-    algorithm: &str,
-) -> Result<Command, WordsFault>
-    requires { Some algorithm.now ≡ first_of (codes "promela") (given_in matches.now) }
+fn promela_words(alloc: Global, matches: &ArgMatches<'_>) -> Result<Command, WordsFault>
+    requires { IsSome (first_of (codes "promela") (given_in matches.now)) }
     ensures { ReadsCommand (codes "export") (given_in matches.now) result }
 {
     Ok(Command::Export(ExportArgs {
-        algorithm: String::from_str(alloc, algorithm)?,
+        algorithm: given_text(alloc, matches, "promela")?,
         procs: number_of(matches, "procs"),
         limit: number_or(matches, "limit", 4),
         crashes: number_or(matches, "crashes", 0),
@@ -40,9 +28,9 @@ pub(crate) fn export_words(alloc: Global, matches: &ArgMatches<'_>) -> Result<Co
     ensures { ReadsCommand (codes "export") (given_in matches.now) result }
 {
     match str_of(matches, "promela") {
-        Some(algorithm) => promela_words(alloc, matches, algorithm),
+        Some(_) => promela_words(alloc, matches),
         None => Err(WordsFault::Refused {
-            text: without_promela(alloc)?,
+            text: error_text(alloc, "there is no '--promela <FILE>'")?,
         }),
     }
 }

@@ -1,29 +1,27 @@
 //! Reads the words of `shrink`.
 
-ghost use Rattle.std.specs.Prelude.{◌≡◌, Some, IsNone, codes};
+ghost use Rattle.std.specs.Prelude.{IsNone, IsSome, codes};
 ghost use Rattle.clap.specs.Words.{first_of};
 ghost use Rattle.cli.specs.Given.{given_in};
 ghost use Rattle.cli.specs.ReadWords.{ReadsCommand};
 
 use crate::arguments::args::{AlgorithmShrinkArgs, Command, ShrinkArgs};
-use crate::arguments::words::{WordsFault, is_given, str_of, text_of, variant_of, without_lock};
+use crate::arguments::words::{
+    NO_LOCK, WordsFault, error_text, given_text, is_given, str_of, text_of, variant_of,
+};
 use clap::ArgMatches;
 use std::alloc::Global;
 
 /// A schedule that goes wrong on the algorithm with this text.
-fn algorithm_words(
-    alloc: Global,
-    matches: &ArgMatches<'_>,
-    algorithm: &str,
-) -> Result<Command, WordsFault>
-    requires { Some algorithm.now ≡ first_of (codes "algorithm") (given_in matches.now) }
+fn algorithm_words(alloc: Global, matches: &ArgMatches<'_>) -> Result<Command, WordsFault>
+    requires { IsSome (first_of (codes "algorithm") (given_in matches.now)) }
     ensures { ReadsCommand (codes "shrink") (given_in matches.now) result }
 {
     if is_given(matches, "variant") {
         return Err(WordsFault::BadVariant);
     }
     Ok(Command::ShrinkAlgorithm(AlgorithmShrinkArgs {
-        algorithm: String::from_str(alloc, algorithm)?,
+        algorithm: given_text(alloc, matches, "algorithm")?,
         file: text_of(alloc, matches, "FILE")?,
     }))
 }
@@ -35,7 +33,7 @@ fn variant_words(alloc: Global, matches: &ArgMatches<'_>) -> Result<Command, Wor
 {
     if !is_given(matches, "variant") {
         return Err(WordsFault::Refused {
-            text: without_lock(alloc)?,
+            text: error_text(alloc, NO_LOCK)?,
         });
     }
     Ok(Command::Shrink(ShrinkArgs {
@@ -49,7 +47,7 @@ pub(crate) fn shrink_words(alloc: Global, matches: &ArgMatches<'_>) -> Result<Co
     ensures { ReadsCommand (codes "shrink") (given_in matches.now) result }
 {
     match str_of(matches, "algorithm") {
-        Some(algorithm) => algorithm_words(alloc, matches, algorithm),
+        Some(_) => algorithm_words(alloc, matches),
         None => variant_words(alloc, matches),
     }
 }

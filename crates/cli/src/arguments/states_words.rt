@@ -1,6 +1,6 @@
 //! Reads the words of `states`.
 
-ghost use Rattle.std.specs.Prelude.{◌≡◌, ◌≢◌, Some, IfErr, IfOk, IfSome, IsNone, codes};
+ghost use Rattle.std.specs.Prelude.{◌≡◌, ◌≢◌, IfErr, IfOk, IfSome, IsNone, IsSome, codes};
 ghost use Rattle.clap.specs.Words.{first_of};
 ghost use Rattle.cli.specs.Given.{given_in, AsksForTool, AsksForNoTool, word_of_tool};
 ghost use Rattle.cli.specs.ReadWords.{IsFaultOfStream, IsStream, ReadsCommand};
@@ -59,15 +59,11 @@ fn stream_of(alloc: Global, matches: &ArgMatches<'_>) -> Result<StreamArgs, Word
 
 /// The states of an algorithm's search.
 #[tactic(auto, using(crate::proofs::Answered::states_refused, crate::proofs::Answered::algorithm_stream_refused))]
-fn algorithm_words(
-    alloc: Global,
-    matches: &ArgMatches<'_>,
-    algorithm: &str,
-) -> Result<Command, WordsFault>
-    requires { Some algorithm.now ≡ first_of (codes "algorithm") (given_in matches.now) }
+fn algorithm_words(alloc: Global, matches: &ArgMatches<'_>) -> Result<Command, WordsFault>
+    requires { IsSome (first_of (codes "algorithm") (given_in matches.now)) }
     ensures { ReadsCommand (codes "states") (given_in matches.now) result }
 {
-    let search = algorithm_search(alloc, matches, algorithm)?;
+    let search = algorithm_search(alloc, matches)?;
     let stream = stream_of(alloc, matches)?;
     Ok(Command::StatesAlgorithm(AlgorithmStatesArgs { search, stream }))
 }
@@ -88,7 +84,7 @@ pub(crate) fn states_words(alloc: Global, matches: &ArgMatches<'_>) -> Result<Co
     ensures { ReadsCommand (codes "states") (given_in matches.now) result }
 {
     match str_of(matches, "algorithm") {
-        Some(algorithm) => algorithm_words(alloc, matches, algorithm),
+        Some(_) => algorithm_words(alloc, matches),
         None => variant_words(alloc, matches),
     }
 }

@@ -1,26 +1,22 @@
 //! Reads the words of `step`.
 
-ghost use Rattle.std.specs.Prelude.{◌≡◌, Some, codes};
+ghost use Rattle.std.specs.Prelude.{IsSome, codes};
 ghost use Rattle.clap.specs.Words.{first_of};
 ghost use Rattle.cli.specs.Given.{given_in};
 ghost use Rattle.cli.specs.ReadWords.{ReadsCommand};
 
 use crate::arguments::args::{AlgorithmStepArgs, Command};
-use crate::arguments::words::{WordsFault, str_of, text_of};
+use crate::arguments::words::{WordsFault, given_text, str_of, text_of};
 use clap::ArgMatches;
 use std::alloc::Global;
 
 /// A session on the algorithm with this text.
-fn algorithm_words(
-    alloc: Global,
-    matches: &ArgMatches<'_>,
-    algorithm: &str,
-) -> Result<Command, WordsFault>
-    requires { Some algorithm.now ≡ first_of (codes "algorithm") (given_in matches.now) }
+fn algorithm_words(alloc: Global, matches: &ArgMatches<'_>) -> Result<Command, WordsFault>
+    requires { IsSome (first_of (codes "algorithm") (given_in matches.now)) }
     ensures { ReadsCommand (codes "step") (given_in matches.now) result }
 {
     Ok(Command::StepAlgorithm(AlgorithmStepArgs {
-        algorithm: String::from_str(alloc, algorithm)?,
+        algorithm: given_text(alloc, matches, "algorithm")?,
         file: text_of(alloc, matches, "FILE")?,
     }))
 }
@@ -30,7 +26,7 @@ pub(crate) fn step_words(alloc: Global, matches: &ArgMatches<'_>) -> Result<Comm
     ensures { ReadsCommand (codes "step") (given_in matches.now) result }
 {
     match str_of(matches, "algorithm") {
-        Some(algorithm) => algorithm_words(alloc, matches, algorithm),
+        Some(_) => algorithm_words(alloc, matches),
         None => Ok(Command::Step(text_of(alloc, matches, "FILE")?)),
     }
 }

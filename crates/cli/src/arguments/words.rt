@@ -138,6 +138,24 @@ pub(crate) fn text_of(
     }
 }
 
+/// A copy of the text of an argument that is given.
+pub(crate) fn given_text(
+    alloc: Global,
+    matches: &ArgMatches<'_>,
+    name: &str,
+) -> Result<String, AllocError>
+    requires { IsSome (first_of name.now (given_in matches.now)) }
+    ensures { IfOk result (λ text. Some (string_bytes text) ≡ first_of name.now (given_in matches.now)) }
+{
+    match str_of(matches, name) {
+        Some(text) => {
+            let copy = String::from_str(alloc, text)?;
+            Ok(copy)
+        }
+        None => unreachable!(),
+    }
+}
+
 /// Whether this flag is given.
 pub(crate) fn is_set(matches: &ArgMatches<'_>, name: &str) -> bool
     ensures { result ≡ is_set name.now (given_in matches.now) }
@@ -194,12 +212,12 @@ pub(crate) fn is_alone(matches: &ArgMatches<'_>) -> bool
     !is_given(matches, "variant") && !is_given(matches, "image") && !is_given(matches, "save")
 }
 
-/// The error text where there is nothing to run.
-pub(crate) fn without_lock(alloc: Global) -> Result<String, AllocError> {
-    String::from_str(
-        alloc,
-        "error: there is neither '--variant <V>' nor '--algorithm <FILE>'\n\nFor more information, try '--help'.\n",
-    )
+/// What is wrong where there is nothing to run.
+pub(crate) const NO_LOCK: &str = "there is neither '--variant <V>' nor '--algorithm <FILE>'";
+
+/// The error text for words that `clap` takes and the command does not, with what is wrong.
+pub(crate) fn error_text(alloc: Global, wrong: &str) -> Result<String, AllocError> {
+    format!(in alloc; "error: {wrong}\n\nFor more information, try '--help'.\n")
 }
 
 /// The arguments of a run, if its numbers are in their ranges.

@@ -39,18 +39,27 @@ fn line_of_place(at: u64, cause: &str, number: u64) -> ArrayString<128>
     line
 }
 
+/// The line for a fault of a line of a text or of states, with the sentence that says what is wrong.
+fn line_with_sentence(before: &str, at: u64, number: u64, sentence: &str) -> ArrayString<128>
+    requires { (length before.now ≤ 23) × (length sentence.now ≤ 54) }
+    ensures { result.bytes ≡ before.now ++ decimal at ++ codes ": fault " ++ decimal number ++ codes ": " ++ sentence.now ++ 10 ∷ [] }
+{
+    let mut line = ArrayString::new();
+    put(&mut line, before, at);
+    put(&mut line, ": fault ", number);
+    line.push_str(": ");
+    line.push_str(sentence);
+    line.push_str("\n");
+    line
+}
+
 /// The line for a fault of a line of an algorithm's text.
 fn line_of_algorithm(at: u64, fault: ReadFault) -> ArrayString<128>
     ensures { result.bytes ≡ codes "rmelab: algorithm line " ++ decimal at ++ codes ": fault " ++ decimal (number_of_text_fault fault)
         ++ codes ": " ++ sentence_of fault ++ 10 ∷ [] }
 {
-    let mut line = ArrayString::new();
-    put(&mut line, "rmelab: algorithm line ", at);
-    put(&mut line, ": fault ", number_of_text_fault(fault));
-    line.push_str(": ");
-    line.push_str(sentence_of(fault));
-    line.push_str("\n");
-    line
+    let number = number_of_text_fault(fault);
+    line_with_sentence("rmelab: algorithm line ", at, number, sentence_of(fault))
 }
 
 /// The line for a fault of a line of states.
@@ -58,13 +67,7 @@ fn line_of_states(at: u64, fault: StatesFault) -> ArrayString<128>
     ensures { result.bytes ≡ codes "rmelab: states line " ++ decimal at ++ codes ": fault " ++ decimal (number_of_states_fault fault)
         ++ codes ": " ++ sentence_of_states_fault fault ++ 10 ∷ [] }
 {
-    let mut line = ArrayString::new();
-    put(&mut line, "rmelab: states line ", at);
-    put(&mut line, ": fault ", fault.number());
-    line.push_str(": ");
-    line.push_str(fault.sentence());
-    line.push_str("\n");
-    line
+    line_with_sentence("rmelab: states line ", at, fault.number(), fault.sentence())
 }
 
 /// A line of a text, a number and a text.

@@ -1,15 +1,11 @@
 -- How the writing of a model ends, from what was written.
-use Rattle.std.proofs.Common.{◌≡◌, ℕ, List, Bool, None, Result, Err, refl, inl, inr}
+use Rattle.std.proofs.Common.{◌≡◌, List, Bool, None, Result, inl}
 use Rattle.schedule.specs.Tapes.{Tape}
 use Rattle.algorithms.specs.Worlds.{first_world, new_refusal}
 use Rattle.algorithms.specs.declared.first_values.InitializedAlgorithm.{InitializedAlgorithm}
 use Rattle.algorithm_explorer.specs.Live.{IsLeastLive}
-use Rattle.promela.specs.Models.{IsNoModelOf, model_text}
-use Rattle.promela.specs.declared.model.PromelaFault.{PromelaFault}
-use Rattle.promela.specs.declared.model.PromelaFault.TheVariants.{Refused, TooGreat}
-use Rattle.algorithms.specs.declared.refusal.AlgorithmRefusal.{AlgorithmRefusal}
+use Rattle.promela.specs.Models.{model_text}
 use Rattle.cli.specs.declared.arguments.args.ExportArgs.{ExportArgs}
-use Rattle.command_parts.specs.declared.fault.CommandFault.TheVariants.{BadSize}
 use Rattle.algorithm_commands.specs.AlgorithmExplores.{all_calls_of}
 use Rattle.algorithm_commands.specs.AlgorithmExports.{ExportsAlgorithm}
 use Rattle.command_parts.specs.declared.ending.Ending.{Ending}
@@ -23,6 +19,3 @@ module _ (a : InitializedAlgorithm) (args : ExportArgs) (before now : Tape) (r :
   ends_model sizes live is_live prints = inl (record { sizes = sizes; live = live; is_live = is_live; prints = prints })
 
 module _ (a : InitializedAlgorithm) (args : ExportArgs) (now : Tape) where
-  pub ends_refused : (e : AlgorithmRefusal) → IsNoModelOf a args.procs args.limit args.crashes (Refused e) → ExportsAlgorithm a args now now (Err BadSize)
-  ends_refused e refused =
-      inr (inl (refl, record { sizes = inl (λ none. absurd (cc)); silent = record { taken = refl; fine = refl } }))

@@ -5,9 +5,6 @@ use Rattle.std.proofs.lemmas.Bool.{false≢true}
 use Rattle.std.proofs.lemmas.Slice.Eq.{bytes_eq-Decides}
 use Rattle.clap.specs.Words.{Text}
 
-pub same : (a : Text) → bytes_eq a a ≡ true
-same a = (bytes_eq-Decides a a).1 refl
-
 pub differ : (a b : Text) → bytes_eq a b ≡ false → a ≢ b
 differ a b other e = false≢true (sym other ∙ (bytes_eq-Decides a b).1 e)
 

@@ -77,20 +77,6 @@ module _ {S : Type 0} (b : Semantics S) where
     pub answered : AreAnswers b first lines before mid session answers
     pub writes : Writes blank written answers
 
-  -- nothing yet
-  pub begins : (s : SessionState S) (buffer : List ℕ) (r : Reading) (u : Used) (t : Tape) → Going s buffer r r u u t t s buffer
-  begins s buffer r u t =
-      record {
-        more = [];
-        given = sym (append-nil r.given);
-        fine = refl;
-        lines = [];
-        answers = [];
-        parts = ap parts_of (append-nil buffer);
-        answered = (refl, refl, refl);
-        writes = record { taken = sym (append-nil t.taken); fine = refl };
-      }
-
   -- the sink was flushed
   pub flushed : (first s : SessionState S) (start buffer : List ℕ) (old now : Reading) (before mid : Used) (blank written after : Tape)
       → Going first start old now before mid blank written s buffer → after.taken ≡ written.taken → after.failures ≡ written.failures
@@ -225,11 +211,6 @@ module _ {S : Type 0} (b : Semantics S) where
           },
         ),
       )
-
-  -- a request to save changes no schedule, and is answered by what comes of it
-  pub saves_only : (s : SessionState S) (r : Result Request LineFault) → reply_to r ≡ replies.Saves → (after_request b s r ≡ s) × (text_of_request b s r ≡ [])
-  saves_only s (Ok requests.Save) e = (refl, refl)
-  saves_only s _ e = cc
 
   -- ---- where it breaks off
 
@@ -443,11 +424,6 @@ wrote_page written after bytes page is taken fine = record { taken = taken ∙ a
 pub kept_by : (before now : Used) (file text : List ℕ) (done : Bool) → WritesFile before now file text → IsSaved before now file text done
 kept_by before now file text true h = h
 kept_by before now file text false h = inr h
-
--- and so was its file, if it names one
-pub kept_begun : (before now : Used) (file text : List ℕ) (done : Bool) → IsSaved before now file text done → (now ≡ before) ⊎ WritesFile before now file text
-kept_begun before now file text true h = inr h
-kept_begun before now file text false h = h
 
 -- what was read before is the beginning of what was read
 pub given_more : (old mid new more piece : List ℕ) → new ≡ mid ++ piece → mid ≡ old ++ more → (x : List ℕ) × (new ≡ old ++ x)

@@ -214,7 +214,3 @@ pub record CantBuffer (before now : Used) (status : ℕ) : Type 0 where
   pub said : Tape
   pub says : Tape
   pub reports : IsLineWritten said says (fault_line OutOfMemory)
-
--- no file was opened or written before
-abbrev pub nothing_used : Used
-nothing_used = record { opened = []; saved = []; texts = [] }

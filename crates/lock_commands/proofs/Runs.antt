@@ -2,7 +2,6 @@
 use Rattle.std.proofs.Common.{◌≡◌, ◌⊎◌, ℕ, ◌-◌, ◌*◌, ◌^◌, ◌≤◌, min, refl, inl, inr, arith, subst, sym}
 use Rattle.std.proofs.Math.Nat.{min-eq_left, one-le-mul}
 use Rattle.std.proofs.lemmas.Nat.{mul-le}
-use Rattle.std.proofs.lemmas.Bool.Decides.{leb_tells}
 use Rattle.table_runs.specs.Lab.{IsBadSpec}
 use Rattle.robust.specs.LabFaults.{EndsLab}
 use Rattle.table_runs.specs.declared.lab.lab_fault.LabFault.{LabFault}
@@ -56,10 +55,3 @@ lab_fails_so args spec gates fault reports sizes count is bad why =
     (lab_fails args fault
     (λ e. subst (λ (s : Spec). IsBadSpec s args.procs) sizes (subst (λ (n : ℕ). IsBadSpec spec n) count (bad e)))
     (subst (λ (s : Spec). (fault ≡ of_lab.BadSpec) ⊎ EndsLab s fault) sizes why))
-
--- a lab that has run has few messages
-pub few_messages : (args : RunArgs) (gates : ℕ) → (IsBadSpec (lab_for args) gates → ⊥) → args.messages ≤ 4096
-few_messages args gates good = elim (leb_tells args.messages 4096) [
-  | inl few ↦ few.1
-  | inr many ↦ absurd (good (inr (inr (inr (inr (inl (inr (omega (arith, many.1)))))))))
-]

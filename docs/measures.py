@@ -184,14 +184,16 @@ def lines() -> Iterator[str]:
 
 
 def pairs_alike() -> int | None:
-    """How many pairs of runs of lines in src are alike by shape, as the command `duplicates` counts them where it is installed."""
+    """How many pairs of runs of lines in src are alike by shape, as the command `duplicates` counts them where it is installed. It passes
+    over imports; those of proofs begin with `ghost` here, which it does not know."""
     if not shutil.which("duplicates"):
         return None
     with tempfile.TemporaryDirectory() as folder:
         for file in files("src"):
             to = os.path.join(folder, file.removesuffix(".rt") + ".rs")
             os.makedirs(os.path.dirname(to), exist_ok=True)
-            shutil.copyfile(os.path.join(TOP, file), to)
+            with open(to, "w", encoding="utf-8") as copy:
+                copy.write(re.sub(r"^( *)ghost use ", r"\1use ", text_of(file), flags=re.M))
         ran = subprocess.run(["duplicates", "--repo", folder, "--seconds", "120"], capture_output=True, text=True, check=False)
     said = re.match(r"(\d+) pairs", ran.stdout)
     return int(said[1]) if said else None
@@ -219,9 +221,9 @@ MEASURES = [
     Measure("files", "files of src and specs named by a gerund", 0, gerunds),
     Measure("behind", "uses of an identifier with `behind`", 0, lambda: uses_in_names("behind")),
     Measure("told", "uses of an identifier with `told`", 11, lambda: uses_in_names("told")),
-    Measure("lines", "lines of src, specs and proofs", 207_500, lines),
+    Measure("lines", "lines of src, specs and proofs", 207_138, lines),
 ]
-MOST_PAIRS_ALIKE = 474
+MOST_PAIRS_ALIKE = 460
 
 
 def findings() -> Iterator[str]:

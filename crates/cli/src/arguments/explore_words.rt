@@ -1,6 +1,6 @@
 //! Reads the words of `explore`.
 
-ghost use Rattle.std.specs.Prelude.{◌≡◌, ◌↔◌, ◌≢◌, true, map, Some, IfOk, IfErr, IfSome, IsNone, IsSome, OnOk, OnErr, IsErrOf, codes};
+ghost use Rattle.std.specs.Prelude.{◌≡◌, ◌↔◌, ◌≢◌, true, map, IfOk, IfErr, IfSome, IsNone, IsSome, OnOk, OnErr, IsErrOf, codes};
 ghost use Rattle.std.specs.List.{list_all};
 ghost use Rattle.clap.specs.Words.{first_of};
 ghost use Rattle.cli.specs.Given.{given_in, is_set, has_call, is_call, alphabet_of, is_algorithm_call, algorithm_calls_of, algorithm_calls_in as algorithm_calls_asked, are_algorithm_calls, calls_of, calls_without, names_in, word_of_cycles, AsksForCycles};

@@ -1,6 +1,6 @@
 //! Reads the words of the command line.
 
-ghost use Rattle.std.specs.Prelude.{◌≡◌, ◌≢◌, ◌↔◌, true, option_map, is_some, IfOk, IfErr, IfSome, IsNone, IsSomeAnd, IsOk, OnErr, IsErrOf, string_bytes, codes};
+ghost use Rattle.std.specs.Prelude.{◌≡◌, ◌≢◌, ◌↔◌, true, Some, option_map, is_some, IfOk, IfErr, IfSome, IsNone, IsSome, IsSomeAnd, IsOk, OnErr, IsErrOf, string_bytes, codes};
 ghost use Rattle.clap.specs.Words.{first_of, kind_of, subcommand_rows_of};
 ghost use Rattle.crashlab.specs.declared.variants.variant.Variant.{Variant as AnyVariant};
 ghost use Rattle.cli.specs.declared.explain.dictionary_entry.DictionaryEntry.{DictionaryEntry as AnyDictionaryEntry};

@@ -11,10 +11,6 @@ use Rattle.algorithms.specs.Values.{fitting}
 use Rattle.algorithms.specs.declared.constants.Constants.{Constants}
 use Rattle.algorithms.specs.declared.line.Members.TheVariants.{Others}
 
-by_order : (a e : Bool) → is_eq (cond a Less (cond e Equal Greater)) ≡ true → a ≡ false
-by_order true e h = cc
-by_order false e h = refl
-
 -- a test of equality
 pub eq_cmp : (x y : ℕ) → is_eq (nat_cmp x y) ≡ (x == y)
 eq_cmp x y =

@@ -1,6 +1,6 @@
 -- Which line of the text a place of the lock is.
-use Rattle.std.proofs.Common.{◌≡◌, ℕ, ◌+◌, ◌<◌, ◌⊎◌, Bool, true, false, List, [], ◌∷◌, Option, Some, None, unwrap_or}
-use Rattle.rmecore.specs.Place.{Place, Rest, Dead, Reread, Opening, Door, Shutting, Wait, Inside, Leaving, Withdrawing, Unmarking, above, only}
+use Rattle.std.proofs.Common.{◌≡◌, ℕ, ◌+◌, ◌<◌, ◌⊎◌, List, [], ◌∷◌, Option, Some, None}
+use Rattle.rmecore.specs.Place.{Place, Rest, Dead, Reread, Opening, Door, Shutting, Wait, Inside, Leaving, Withdrawing, Unmarking, above}
 use Rattle.rmecore.specs.declared.core_call.CoreCall.TheVariants.{Lock, Unlock, Recover}
 use Rattle.rmecore.specs.declared.outer.Outer.{Outer}
 use Rattle.rmecore.specs.declared.outer.Outer.TheVariants as outers
@@ -70,8 +70,3 @@ noted_by (Some (outers.Reenter p)) = one Reenter
 noted_by (Some (outers.Leave p)) = one Leave
 noted_by (Some (outers.Quit p)) = one Quit
 noted_by (Some (outers.Crash p)) = nothing_noted
-
--- a step that is allowed
-pub chosen : (n limit p : ℕ) (b : Bool) (to from : Place) (t : AlgorithmProcess) → b ≡ true → Stands n limit p to t → Stands n limit p (unwrap_or (only b to) from) t
-chosen n limit p true to from t e h = h
-chosen n limit p false to from t e h = absurd (cc)

@@ -10,8 +10,8 @@ use Rattle.algorithms.specs.declared.fault.ReadFault.TheVariants.{NoHeader}
 use Rattle.algorithm_texts.specs.declared.filled.Filled.{Filled}
 use Rattle.algorithm_texts.specs.Drafts.{Drafted}
 use Rattle.algorithm_texts.specs.Operands.{RefusesAs}
-use Rattle.algorithm_texts.specs.LineFaults.{head_fault, line_fault, promises_fault}
-use Rattle.algorithm_texts.specs.TextDrafts.{read_head, read_line, read_promises, empty_draft, with_number}
+use Rattle.algorithm_texts.specs.LineFaults.{head_fault, line_fault}
+use Rattle.algorithm_texts.specs.TextDrafts.{read_head, read_line, empty_draft, with_number}
 use Rattle.algorithm_texts.specs.TextFaults.{OrMemory, StopsOnLine, BeginsDraft, IsFaultOfForms, IsFaultOfHead, IsFaultOfSecond}
 use Rattle.algorithm_texts.specs.TextLines.{second_said, spoken_of}
 use Rattle.algorithm_texts.proofs.TextBeginnings.{second_line}
@@ -54,16 +54,6 @@ forms_stop lines i line first d fault less at back (inr h) =
 
 at_first : (lines : List Filled) (k : ℕ) (line : Filled) → slice_get lines k ≡ Some line → slice_get (map spoken_of lines) k ≡ Some (spoken_of line)
 at_first lines k line e = slice_get-map spoken_of lines k ∙ ap (option_map spoken_of) e
-
-pub second_missing : (lines : List Filled) (first : ℕ) (fault : AlgorithmFault) → slice_get lines 1 ≡ None → fault ≡ fault_of first NoHeader
-    → OrMemory fault (IsFaultOfSecond first (slice_get (map spoken_of lines) 1) fault)
-second_missing lines first fault e named =
-    inr (subst (λ o. IsFaultOfSecond first o fault) (sym (slice_get-map spoken_of lines 1 ∙ ap (option_map spoken_of) e)) named)
-
-pub second_stops : (lines : List Filled) (first : ℕ) (second : Filled) (fault : AlgorithmFault) → slice_get lines 1 ≡ Some second
-    → OrMemory fault (StopsOnLine second.number (read_promises second.tokens.all.items) (promises_fault second.tokens.all.items) fault) → OrMemory fault (IsFaultOfSecond first (slice_get (map spoken_of lines) 1) fault)
-second_stops lines first second fault e h =
-    subst (λ o. OrMemory fault (IsFaultOfSecond first o fault)) (sym (at_first lines 1 second e)) h
 
 pub first_missing : (lines : List Filled) (fault : AlgorithmFault) → slice_get lines 0 ≡ None → fault ≡ fault_of 1 NoHeader
     → OrMemory fault (IsFaultOfHead (slice_get (map spoken_of lines) 0) (slice_get (map spoken_of lines) 1) fault)

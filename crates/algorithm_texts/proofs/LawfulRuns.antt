@@ -1,32 +1,23 @@
 -- Why a text of which round four refuses the draft spells no algorithm.
-use Rattle.std.proofs.Common.{◌≡◌, ℕ, List, Some, sym, ap, ◌∙◌, subst}
-use Rattle.std.proofs.lemmas.Option.{same_Some}
+use Rattle.std.proofs.Common.{◌≡◌, ℕ, List, sym, ap, subst}
 use Rattle.algorithms.specs.declared.algorithm.Algorithm.{Algorithm}
 use Rattle.algorithms.specs.declared.fault.AlgorithmFault.{AlgorithmFault}
 use Rattle.algorithms.specs.declared.first_values.InitializedAlgorithm.{InitializedAlgorithm}
 use Rattle.algorithms.specs.declared.line.AlgorithmDeed.TheVariants.{Enter, Leave}
 use Rattle.algorithms.specs.Deeds.{SaysDeed}
-use Rattle.algorithm_texts.specs.Parts.{◌>>=◌}
 use Rattle.algorithm_texts.specs.Drafts.{PlacedLine, lines_of, Drafted}
-use Rattle.algorithm_texts.specs.TextDrafts.{Spoken, read_text}
 use Rattle.algorithm_texts.specs.TextFaults.{ClaimsHavePlaces}
-use Rattle.algorithm_texts.specs.TextLines.{IsRefusalOf, TextSays}
-use Rattle.algorithm_texts.specs.FinishedDrafts.{finished_draft}
+use Rattle.algorithm_texts.specs.TextLines.{IsRefusalOf}
 use Rattle.algorithm_texts.specs.Lawful.{NotesDeed}
 use Rattle.algorithm_texts.specs.Runs.{AllRuns}
 use Rattle.algorithm_texts.specs.UnreachedLines.{EndUnreached}
 use Rattle.algorithm_texts.specs.Programs.{SpellsAlgorithm}
 use Rattle.algorithm_texts.proofs.NotedLines.{said_of}
-use Rattle.algorithm_texts.proofs.OneDraft.{spelled_read}
 use Rattle.algorithm_texts.proofs.RunChecks.{refused_part}
 
 -- all algorithms that a text spells are of this draft
 abbrev pub IsItsDraft : List ℕ → Drafted → Type 0
 IsItsDraft text d = (a : InitializedAlgorithm) (s : SpellsAlgorithm text a) → s.draft ≡ d
-
--- so they are of the one that is read
-pub its_draft : (text : List ℕ) (spoken : List Spoken) (d : Drafted) → TextSays text spoken → (read_text spoken >>= finished_draft) ≡ Some d → IsItsDraft text d
-its_draft text spoken d says reads = λ a s. same_Some s.draft d (sym (spelled_read text a spoken s says) ∙ reads)
 
 -- the runs of such a draft do what they may, and its lines can end
 pub flow_of : (text : List ℕ) (d : Drafted) → IsItsDraft text d → (a : InitializedAlgorithm) → SpellsAlgorithm text a

@@ -1,5 +1,5 @@
 -- Lines that lead to another place.
-use Rattle.std.proofs.Common.{◌≡◌, ℕ, List, map, set, Some, None, slice_get, sym, ap, ◌∙◌}
+use Rattle.std.proofs.Common.{◌≡◌, ℕ, List, map, set, Some, slice_get, sym, ap, ◌∙◌}
 use Rattle.std.proofs.lemmas.List.{map-set}
 use Rattle.std.proofs.lemmas.Option.{slice_get-map}
 use Rattle.std.specs.Option.{option_map}
@@ -16,7 +16,3 @@ led_lines lines i to old new e n f =
     let here : slice_get (map line_of lines) i ≡ Some (line_of old) = slice_get-map line_of lines i ∙ ap (option_map line_of) e in
     let line : line_of new ≡ placed_at to (line_of old) = ap (λ (m : ℕ). record { number = m; form = form_of new.form }) n ∙ ap (λ form. record { number = old.number; form = form }) f in
     map-set line_of lines i new ∙ ap (λ l. set (map line_of lines) i l) line ∙ ap (leading (map line_of lines) i to) (sym here)
-
--- there is no line
-pub none_led : (lines : List AlgorithmLine) (i to : ℕ) → slice_get lines i ≡ None → map line_of lines ≡ leading (map line_of lines) i to (slice_get (map line_of lines) i)
-none_led lines i to e = ap (leading (map line_of lines) i to) (sym (slice_get-map line_of lines i ∙ ap (option_map line_of) e))

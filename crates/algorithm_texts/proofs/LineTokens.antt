@@ -102,9 +102,6 @@ pub record AreRead (old : List Token) (bytes : List ℕ) (all : List Token) (res
   pub added : all ≡ old ++ read
   pub completes : (ts : List Token) (end : Result (List ℕ) ReadFault) → Scans rest ts end → Scans bytes (read ++ ts) end
 
-pub none_read : (old : List Token) (bytes : List ℕ) → AreRead old bytes old bytes
-none_read old bytes = record { read = []; added = sym (append-nil old); completes = λ ts end h. h }
-
 pub space_read : (old : List Token) (bytes : List ℕ) (all : List Token) (rest after : List ℕ) (b : ℕ) → rest ≡ b ∷ after → b ≡ 32 → AreRead old bytes all rest → AreRead old bytes all after
 space_read old bytes all rest after b front e h = record {
   read = h.read;

@@ -14,10 +14,6 @@ position_map test f xs =
     ap (λ (n : ℕ). cond (ltb n (length xs)) (Some n) None) (prefix_map (λ y. not (test y)) f xs)
     ∙ ap (λ (m : ℕ). cond (ltb (position_or_len test (map f xs)) m) (Some (position_or_len test (map f xs))) None) (sym (length-map xs f))
 
-pub any_map : {A B : Type 0} (test : B → Bool) (f : A → B) (xs : List A) → list_any (λ x. test (f x)) xs ≡ list_any test (map f xs)
-any_map test f [] = refl
-any_map test f (x ∷ xs) = ap (λ (b : Bool). test (f x) || b) (any_map test f xs)
-
 more : (m n : ℕ) → ltb (1 + m) (n + 1) ≡ ltb m n
 more m n = grind (arith, nat_tests)
 

@@ -243,10 +243,6 @@ pub record Followed (d : Drafted) (call : CallRead) (left : List Bool) (count : 
   pub marked : (at : ℕ) → call.«from» ≤ at → at < place → is_in left at ≡ true → (way : ℕ) → leads_to (ways_from d call All at) way ≡ true → way < length marks
       → is_in marks way ≡ true
 
-pub followed_first : (d : Drafted) (call : CallRead) (left : List Bool) (count : ℕ) (marks : List Bool) → length marks ≡ count
-    → Followed d call left count marks call.«from»
-followed_first d call left count marks e = record { size = e; marked = λ at a b. absurd (omega (arith, a, b)) }
-
 pub followed_on : (d : Drafted) (call : CallRead) (left : List Bool) (count : ℕ) (marks now : List Bool) (place : ℕ) → Followed d call left count marks place
     → length now ≡ length marks → KeepsMarks marks now
     → (is_in left place ≡ true → (way : ℕ) → leads_to (ways_from d call All place) way ≡ true → way < length now → is_in now way ≡ true)

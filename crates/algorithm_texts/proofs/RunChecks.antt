@@ -1,10 +1,9 @@
 -- What the checks of runs ask.
-use Rattle.std.proofs.Common.{◌≡◌, ◌⊎◌, ℕ, zero, suc, ◌+◌, ◌-◌, ◌<◌, ◌≤◌, Bool, true, false, cond, ◌&&◌, ◌||◌, ltb, leb, eqb, List, [], ◌∷◌, length, reverse, Option, Some, None, IfSome, refl, sym, ap, ◌∙◌, subst, inl, inr, arith}
-use Rattle.std.specs.List.{All as AllOf, list_all, list_any}
+use Rattle.std.proofs.Common.{◌≡◌, ◌⊎◌, ℕ, zero, suc, ◌+◌, ◌-◌, ◌<◌, ◌≤◌, Bool, true, false, cond, ◌&&◌, ◌||◌, ltb, leb, eqb, List, [], ◌∷◌, length, Option, Some, None, IfSome, refl, sym, ap, ◌∙◌, subst, inl, inr, arith}
+use Rattle.std.specs.List.{list_all, list_any}
 use Rattle.std.specs.Prelude.{MatchOption, Result, IfErr, IsErrAnd}
 use Rattle.std.proofs.lemmas.Bool.{false≢true, both_ways, lt-ltb, le-leb, eq-eqb}
-use Rattle.std.proofs.lemmas.List.{length-map, length-reverse, get_or-reverse}
-use Rattle.std.proofs.lemmas.List.Elements.{All-nil, All-get_or, All-from_get_or}
+use Rattle.std.proofs.lemmas.List.{length-map}
 use Rattle.std.proofs.lemmas.Result.{err_from_is_err_and}
 use Rattle.std.proofs.lemmas.Option.{same_Some, none-some, MatchOption-at_some, MatchOption-at_none}
 use Rattle.algorithms.specs.declared.algorithm.AlgorithmCall.{AlgorithmCall}
@@ -189,15 +188,6 @@ marks_of_all d none lock unlock recover withdraw empty ku kr kw ml mu mr mw cl c
     of_kind Withdraw at c = mw at c
 
 -- ---- calls with lines
-
-pub all_reverse : {X : Type 0} (P : X → Type 0) (xs : List X) → AllOf P xs → AllOf P (reverse xs)
-all_reverse P [] h = All-nil P
-all_reverse P (x ∷ xs) h =
-    All-from_get_or P (reverse (x ∷ xs)) x
-    (λ i l.
-    let n = length-reverse (x ∷ xs) in
-    let within : i < length (x ∷ xs) = omega (arith, l, n) in
-    subst P (sym (get_or-reverse (x ∷ xs) i x within)) (All-get_or P (x ∷ xs) (length (x ∷ xs) - 1 - i) x (omega (arith, within)) h))
 
 -- ---- marks that are exact
 

@@ -1,11 +1,10 @@
 -- Lines, one after the other.
 use Rattle.std.proofs.Common.{◌≡◌, ℕ, ◌+◌, ◌≤◌, Bool, true, false, cond, List, [], ◌∷◌, ◌++◌, length, Ok, refl, sym, ap, ◌∙◌, subst, append_assoc, arith}
-use Rattle.std.proofs.lemmas.List.{append-nil}
 use Rattle.std.proofs.lemmas.List.Elements.{All-append, All-cons, All-nil}
 use Rattle.std.specs.List.{All}
 use Rattle.algorithm_texts.specs.declared.tokens.Token.{Token}
 use Rattle.algorithm_texts.specs.Fronts.{is_over}
-use Rattle.algorithm_texts.specs.TextLines.{ended_lines, and_line, SayLines, SaysBefore, TextSays}
+use Rattle.algorithm_texts.specs.TextLines.{ended_lines, and_line, SayLines, SaysBefore}
 use Rattle.algorithm_texts.specs.TextDrafts.{Spoken}
 use Rattle.algorithm_texts.specs.Tokens.{LineSays}
 
@@ -53,29 +52,4 @@ so_far_more text rest line after number next spoken now tokens answer h split sa
   short = all_more h.lines line h.short short;
   say = subst (λ ss. SayLines 1 (h.lines ++ line ∷ []) ss) (sym added) (say_more 1 h.lines line spoken tokens answer number (omega (arith, h.count)) h.say says);
   few_filled = filled;
-}
-
-no_bytes : (bs : List ℕ) → length bs ≡ 0 → bs ≡ []
-no_bytes [] e = refl
-no_bytes (b ∷ bs) e = absurd (omega (arith, e))
-
-pub all_said : (text rest : List ℕ) (number : ℕ) (spoken : List Spoken) → SaysBefore text rest number spoken → length rest ≡ 0 → TextSays text spoken
-all_said text rest number spoken h none = record {
-  lines = h.lines;
-  bytes = h.bytes ∙ ap (λ bs. ended_lines h.lines ++ bs) (no_bytes rest none) ∙ append-nil (ended_lines h.lines);
-  few = h.few;
-  short = h.short;
-  say = h.say;
-  few_filled = h.few_filled;
-}
-
-pub none_so_far : (text : List ℕ) (spoken : List Spoken) → spoken ≡ [] → SaysBefore text text 1 spoken
-none_so_far text spoken e = record {
-  lines = [];
-  bytes = refl;
-  count = refl;
-  few = omega arith;
-  short = All-nil (λ l. length l ≤ 1000);
-  say = e;
-  few_filled = omega (arith, ap length e);
 }

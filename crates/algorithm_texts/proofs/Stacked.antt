@@ -1,87 +1,26 @@
 -- The stack of what waits, as it is kept and as it is read.
-use Rattle.std.proofs.Common.{◌≡◌, ◌⊎◌, ℕ, ◌+◌, ◌<◌, ◌≤◌, Bool, true, false, cond, leb, List, [], ◌∷◌, ◌++◌, length, map, reverse, take, get_or, Some, None, Result, Ok, Err, IfOk, IfErr, String, string_bytes, ltb, inl, inr, refl, sym, ap, ◌∙◌, subst, arith}
-use Rattle.std.proofs.lemmas.Bool.{le-leb, lt-leb, lt-ltb, le-ltb}
-use Rattle.std.proofs.lemmas.List.{map-append, length-map, reverse-append, take_more}
+use Rattle.std.proofs.Common.{◌≡◌, ◌⊎◌, ℕ, ◌+◌, ◌<◌, true, List, [], ◌∷◌, ◌++◌, length, map, Some, None, Result, Ok, Err, IfOk, IfErr, String, string_bytes, ltb, inl, inr, refl, sym, ap, ◌∙◌, subst, arith}
+use Rattle.std.proofs.lemmas.Bool.{lt-ltb}
+use Rattle.std.proofs.lemmas.List.{map-append, length-map}
 use Rattle.std.specs.declared.alloc.Global.{Global}
 use Rattle.algorithms.specs.declared.algorithm.Algorithm.{Algorithm}
-use Rattle.algorithms.specs.declared.condition.Condition.{Condition as ConditionOf}
 use Rattle.algorithms.specs.declared.expression.Expression.{Expression}
 use Rattle.algorithms.specs.declared.fault.ReadFault.{ReadFault}
 use Rattle.algorithms.specs.declared.fault.ReadFault.TheVariants.{OutOfMemory}
 use Rattle.algorithm_texts.specs.declared.tokens.Token.{Token}
-use Rattle.algorithm_texts.specs.declared.operands.Joint.{Joint}
-use Rattle.algorithm_texts.specs.declared.stack.Waiting.{Waiting}
-use Rattle.algorithm_texts.specs.Parts.{OperandPart, Value, Condition, Pair, Private, Term, Formula, term_of, formula_of, join_of, value_in, condition_in, ◌>>=◌}
-use Rattle.algorithm_texts.specs.Grammar.{Scope, strength, private_name_part, Says}
-use Rattle.algorithm_texts.specs.Stacks.{Waits, Joining, Opened, Halfway, Indexing, OperandReading, brackets, is_open, stack_reduction, turn, run, read_part}
-use Rattle.algorithm_texts.specs.Operands.{waits_of, RefusesAs, MakesValue, MakesCondition, scope_of, SayNoValue, SayNoCondition, SayOnePart}
+use Rattle.algorithm_texts.specs.Parts.{OperandPart, Value, Condition, Pair, Private, Term, Formula, term_of, formula_of, value_in, condition_in}
+use Rattle.algorithm_texts.specs.Grammar.{Scope, private_name_part, Says}
+use Rattle.algorithm_texts.specs.Stacks.{read_part}
+use Rattle.algorithm_texts.specs.Operands.{RefusesAs, MakesValue, MakesCondition, scope_of, SayNoValue, SayNoCondition, SayOnePart}
 unfoldable use Rattle.algorithm_texts.specs.Operands.{reserved}
 use Rattle.algorithm_texts.proofs.Complete.{KnowsHeads, complete}
 use Rattle.algorithm_texts.proofs.Sound.{sound, some_same}
 
 -- ---- pushing and popping
 
-pub stack_more : (ws : List Waiting) (w : Waiting) → reverse (map waits_of (ws ++ w ∷ [])) ≡ waits_of w ∷ reverse (map waits_of ws)
-stack_more ws w = ap reverse (map-append waits_of ws (w ∷ [])) ∙ reverse-append (map waits_of ws) (waits_of w ∷ [])
-
-pub bracket_more : (w : Waits) (ws : List Waits) (b : Bool) → is_open w ≡ b → brackets (w ∷ ws) ≡ brackets ws + cond b 1 0
-bracket_more (Joining part joint) ws true e = absurd (cc)
-bracket_more (Joining part joint) ws false e = omega arith
-bracket_more (Opened head) ws true e = refl
-bracket_more (Opened head) ws false e = absurd (cc)
-bracket_more (Halfway head part) ws true e = refl
-bracket_more (Halfway head part) ws false e = absurd (cc)
-bracket_more (Indexing first size) ws true e = refl
-bracket_more (Indexing first size) ws false e = absurd (cc)
-
--- one more that waits is counted
-pub counted : (all : List Waiting) (i : ℕ) (w : Waiting) (b : Bool) → i < length all → w ≡ get_or all i w → is_open (waits_of w) ≡ b
-    → brackets (reverse (map waits_of (take (i + 1) all))) ≡ brackets (reverse (map waits_of (take i all))) + cond b 1 0
-counted all i w b lt here e =
-    ap (λ ws. brackets (reverse (map waits_of ws))) (take_more all i w lt ∙ ap (λ x. take i all ++ x ∷ []) (sym here))
-    ∙ ap brackets (stack_more (take i all) w)
-    ∙ bracket_more (waits_of w) (reverse (map waits_of (take i all))) b e
-
 -- ---- joining
 
-step_at : (least : ℕ) (left part whole : OperandPart) (joint : Joint) (ws : List Waits) → leb least (strength joint) ≡ true → join_of joint left part ≡ Some whole
-    → stack_reduction least (Joining left joint ∷ ws) part ≡ stack_reduction least ws whole
-step_at least left part whole joint ws strong e = rw strong (ap (λ o. o >>= stack_reduction least ws) e)
-
--- a part is joined
-pub reduced_step : (least : ℕ) (stack ws : List Waits) (left part whole : OperandPart) (joint : Joint) → stack ≡ Joining left joint ∷ ws → least ≤ strength joint → join_of joint left part ≡ Some whole
-    → stack_reduction least stack part ≡ stack_reduction least ws whole
-reduced_step least stack ws left part whole joint top le e = ap (λ s. stack_reduction least s part) top ∙ step_at least left part whole joint ws (le-leb least (strength joint) le) e
-
-fail_at : (least : ℕ) (left part : OperandPart) (joint : Joint) (ws : List Waits) → leb least (strength joint) ≡ true → join_of joint left part ≡ None
-    → stack_reduction least (Joining left joint ∷ ws) part ≡ None
-fail_at least left part joint ws strong e = rw strong (ap (λ o. o >>= stack_reduction least ws) e)
-
--- parts that do not go together
-pub reduced_fail : (least : ℕ) (stack ws : List Waits) (left part : OperandPart) (joint : Joint) → stack ≡ Joining left joint ∷ ws → least ≤ strength joint → join_of joint left part ≡ None
-    → stack_reduction least stack part ≡ None
-reduced_fail least stack ws left part joint top le e = ap (λ s. stack_reduction least s part) top ∙ fail_at least left part joint ws (le-leb least (strength joint) le) e
-
-weak_at : (least : ℕ) (left part : OperandPart) (joint : Joint) (ws : List Waits) → leb least (strength joint) ≡ false → stack_reduction least (Joining left joint ∷ ws) part ≡ Some (Joining left joint ∷ ws, part)
-weak_at least left part joint ws weak = rw weak refl
-
--- an operator that is weaker waits on
-pub reduced_weak : (least : ℕ) (stack ws : List Waits) (left part : OperandPart) (joint : Joint) → stack ≡ Joining left joint ∷ ws → strength joint < least
-    → stack_reduction least stack part ≡ Some (Joining left joint ∷ ws, part)
-reduced_weak least stack ws left part joint top lt = ap (λ s. stack_reduction least s part) top ∙ weak_at least left part joint ws (lt-leb least (strength joint) lt)
-
 -- ---- all tokens
-
-turned_run : (scope : Scope) (token : Token) (rest : List Token) (r s : OperandReading) → turn scope r token ≡ Some s → run scope (token ∷ rest) r ≡ run scope rest s
-turned_run scope token rest r s e = ap (λ o. o >>= run scope rest) e
-
--- one more token is read
-pub run_step : (scope : Scope) (tokens rest : List Token) (token : Token) (r s : OperandReading) → tokens ≡ token ∷ rest → turn scope r token ≡ Some s → run scope tokens r ≡ run scope rest s
-run_step scope tokens rest token r s front e = ap (λ ts. run scope ts r) front ∙ turned_run scope token rest r s e
-
--- a token is refused
-pub run_fail : (scope : Scope) (tokens rest : List Token) (token : Token) (r : OperandReading) → tokens ≡ token ∷ rest → turn scope r token ≡ None → run scope tokens r ≡ None
-run_fail scope tokens rest token r front e = ap (λ ts. run scope ts r) front ∙ ap (λ o. o >>= run scope rest) e
 
 -- ---- values and conditions
 
@@ -185,12 +124,6 @@ name_added names word text index e len few =
     let more : map (λ name. string_bytes name) (names ++ text ∷ []) ≡ map (λ name. string_bytes name) names ++ word ∷ [] =
     map-append (λ name. string_bytes name) names (text ∷ []) ∙ ap (λ w. map (λ name. string_bytes name) names ++ w ∷ []) e in
     rw fits (ap (λ (k : ℕ). Some (Value (Private k), map (λ name. string_bytes name) names ++ word ∷ [])) many ∙ ap (λ (ns : List (List ℕ)). Some (Value (Private index), ns)) (sym more))
-
--- no name is added to as many as there may be
-pub name_refused : (names : List Text) (word : List ℕ) → 64 ≤ length names → private_name_part 64 (map (λ name. string_bytes name) names) word None ≡ None
-name_refused names word many =
-    let full : ltb (length (map (λ name. string_bytes name) names)) 64 ≡ false = le-ltb _ _ (omega (arith, length-map names (λ name. string_bytes name))) in
-    rw full refl
 
 -- tokens say one thing
 pub say_one_part : SayOnePart

@@ -7,20 +7,11 @@ use Rattle.algorithm_texts.specs.declared.tokens.Token.TheVariants.{Word, Sign}
 use Rattle.algorithm_texts.specs.declared.operands.Bracket.{Bracket}
 use Rattle.algorithm_texts.specs.declared.operands.Joint.{Joint}
 use Rattle.algorithm_texts.specs.Parts.{Term, OperandPart, join_of, ◌>>=◌}
-use Rattle.algorithm_texts.specs.Grammar.{Scope, Tree, Numeral, Name, Indexed, One, Two, Between, head_tokens, joint_token, tokens_of_tree, strength, Binds, depth, row_read, meaning}
+use Rattle.algorithm_texts.specs.Grammar.{Scope, Tree, Between, head_tokens, joint_token, tokens_of_tree, strength, Binds, depth, row_read, meaning}
 use Rattle.algorithm_texts.specs.Stacks.{Waits, Joining, Opened, Halfway, Indexing, brackets, stack_reduction}
 use Rattle.algorithm_texts.proofs.Complete.{Ends}
 
 -- ---- trees
-
--- a tree binds where less is asked
-pub weaker : (m n : ℕ) (tree : Tree) → m ≤ n → Binds n tree → Binds m tree
-weaker m n (Numeral k) le h = tt
-weaker m n (Name word) le h = tt
-weaker m n (Indexed word tree) le h = h
-weaker m n (One head tree) le h = h
-weaker m n (Two head a b) le h = h
-weaker m n (Between joint a b) le h = (omega (arith, h.0), h.1, h.2)
 
 -- ---- what the tokens so far say
 

@@ -21,8 +21,3 @@ drawn now events run s verdict (Err (line, stops.Refused number)) (ends.Refused 
     record { rows = played.0; shows = ap events_in played.0 ∙ all_shown [] events; stands = played.2; ends_so = λ start ruled. (rw (is.0, is.1) played.1, is.2 ∙ ruled) }
 drawn now events run s verdict (Err (line, stops.OutOfMemory)) (ends.Judged said) played is = absurd is
 drawn now events run s verdict (Err (line, stops.OutOfMemory)) (ends.Refused at purpose said) played is = absurd is
-
--- out of memory comes only where there is something to show
-pub starved : {S A : Type 0} (before now : List DiagramRow) (events : List DiagramEvent) (run : Part S (ℕ × Refusal)) (s : S) (r : Result A (ℕ × DiagramStop)) (line : ℕ) → r ≡ Err (line, stops.OutOfMemory)
-    → CollectsRun before now events run s r → events ≡ [] → ⊥
-starved before now events run s r line is played = rw is at played

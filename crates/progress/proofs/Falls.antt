@@ -205,9 +205,6 @@ module _ (n k p : ℕ) (ahead : Bool) (x : Own) (some : 0 < n) where
   abbrev again : ℕ
   again = relocking n ahead x.choosing x.number x.inside
 
-  holds : (s : Place) (a : ℕ) → 0 < x.number → x.inside ≡ 0 → again ≤ 3 * n + 3 + scan n (2 * n - 2) ahead
-  holds s a number inside = let r = relocking_holds n ahead x.choosing x.number x.inside number inside in omega arith
-
   waiting : (a : ℕ) → x.choosing ≡ 0 → 0 < x.number → x.inside ≡ 0 → 4 + again ≤ scan n a ahead + (3 * n + 4)
   waiting a choosing number inside =
       let r = relocking_waits n ahead x.choosing x.number x.inside choosing number inside in

@@ -127,10 +127,6 @@ module _ (n limit p : ℕ) (below : p < n) where
   ready_now : (w : World) (a : Abstract) → Tied n w a → IsInLine w p → a.phase p ≡ Ready
   ready_now w a t h = t.phase p below ∙ phase_waiting _ _ _ _ h.0 h.1
 
-  first_world : (P : World → Type 0) (w : World) (es : List Event) → Throughout P n limit w es → P w
-  first_world P w [] h = h
-  first_world P w (e ∷ es) h = h.0
-
   pub ready_all : (w : World) (a : Abstract) (es : List Event) → Tied n w a → Run n limit w es → Throughout (λ v. IsInLine v p) n limit w es → ReadyThroughout p a (deeds n limit w es)
   ready_all w a [] t run h = ready_now w a t h
   ready_all w a (e ∷ es) t run h =

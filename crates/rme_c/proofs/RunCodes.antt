@@ -1,11 +1,10 @@
 -- Which run is answered, and the code that says so.
 use Rattle.std.proofs.Common.{◌≡◌, ℕ, ◌+◌, ◌*◌, ◌<◌, ◌≤◌, ◌==◌, true, false, is_none, if◌then◌else◌, Bool, List, [], ◌∷◌, Option, Some, None, refl, sym, ap, ◌∙◌, subst, inl, inr, arith}
-use Rattle.rme_c.proofs.Common.{cases_Bool, lt-ltb, le-ltb, le-leb, Stage, above, above_past, first, MachineState, next_access, machine_after_step, Lock, RmeProcess, layout_of, machine_state_at, machine_state_of, position_of, stage_of, script_position_of, by_parts, is_placed, ScriptPosition, IsFed}
+use Rattle.rme_c.proofs.Common.{cases_Bool, lt-ltb, le-leb, above, above_past, first, MachineState, next_access, machine_after_step, Lock, RmeProcess, machine_state_at, machine_state_of, position_of, stage_of, IsFed}
 use Rattle.rmecore.specs.Place.{Door, Wait, Unmarking}
 use Rattle.rmecore.specs.declared.core_call.CoreCall.TheVariants as call
 use Rattle.rmecore.specs.declared.stage.Stage.TheVariants as stage
 use Rattle.rme_c.specs.Codes.{code_after_step}
-use Rattle.rme_c.specs.Positions.{stage_now}
 use Rattle.rme_c.specs.declared.process.RmeAccess.{RmeAccess}
 use Rattle.rme_c.specs.declared.process.RmePosition.{RmePosition}
 use Rattle.rme_c.specs.declared.runs.AccessRun.{AccessRun}
@@ -42,39 +41,8 @@ pub left_rests : (p m q : RmeProcess) (v c : ℕ) → counted_of m ≡ reached p
 left_rests p m q v c is exact =
     ap next_run (exact ∙ ap (λ (y : Counted). machine_after_step y.machine v) is ∙ ap (λ (y : Counted). y.machine) (unmarks p v 0 (omega arith)))
 
--- in no stage of the lock's part
-no_stage : (b : Bool) (o : Option Stage) → b ≡ true → (if b then o else None) ≡ None → o ≡ None
-no_stage true o placed none = none
-no_stage false o placed none = cc
-
-elsewhere : (p : RmeProcess) (c : Option ScriptPosition) → next_run (machine_state_at p (by_parts None c)) ≡ None
-elsewhere p None = refl
-elsewhere p (Some c) = refl
-
-pub unstaged : (p : RmeProcess) → stage_now p ≡ None → next_run (machine_state_of p) ≡ None
-unstaged p none =
-    let c = script_position_of (layout_of p) p.position in
-    elim (cases_Bool (is_placed p)) [
-      | inl placed ↦
-          let here : position_of p ≡ by_parts (stage_of p.position) c = rw placed refl in
-          let t : stage_of p.position ≡ None = no_stage (is_placed p) (stage_of p.position) placed none in
-          ap (λ y. next_run (machine_state_at p y)) (here ∙ ap (λ o. by_parts o c) t) ∙ elsewhere p c
-      | inr not ↦ rw not refl
-    ]
-
-pub staged : (p : RmeProcess) (t : Stage) (o : Option AccessRun) → position_of p ≡ Lock t → o ≡ next_run (machine_state_at p (Lock t)) → o ≡ next_run (machine_state_of p)
-staged p t o here is = is ∙ ap (λ y. next_run (machine_state_at p y)) (sym here)
-
--- the runs of a doorway and of a wait
-pub peeks_at : (limit m j : ℕ) (js : List ℕ) → first js ≡ Some j → Some (run.Peeks j) ≡ run_at limit (Door js m)
-peeks_at limit m j [] f = cc
-peeks_at limit m j (i ∷ js) f = cc
-
 pub takes_at : (limit m : ℕ) (js : List ℕ) → js ≡ [] → m < limit → Some (run.Takes (m + 1)) ≡ run_at limit (Door js m)
 takes_at limit m js none free = rw (none, lt-ltb m limit free) refl
-
-pub spent_at : (limit m : ℕ) (js : List ℕ) → js ≡ [] → limit ≤ m → None ≡ run_at limit (Door js m)
-spent_at limit m js none full = rw (none, le-ltb m limit full) refl
 
 pub looks_at : (limit k j : ℕ) (js : List ℕ) (looked : Bool) → first js ≡ Some j → (if looked then None else Some (run.Looks j)) ≡ run_at limit (Wait k js (if looked then first js else None))
 looks_at limit k j [] looked f = cc

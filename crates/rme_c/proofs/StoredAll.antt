@@ -1,10 +1,9 @@
 -- An append by one feed.
 use Rattle.std.proofs.Common.{◌≡◌, ◌↔◌, ℕ, zero, suc, min, ◌+◌, ◌*◌, ◌<◌, ◌≤◌, false, List, [], ◌∷◌, ◌++◌, length, take, drop, slice_index, None, refl, sym, ap, ◌∙◌, subst, arith, length-take}
-use Rattle.rme_c.proofs.Common.{Place, Reply, Done, Script, puts, store_steps, record_of, length-store_steps, step-record, step-commit, step-entry, step-last, step-count, step-disarm, saturate, Purpose, MachineState, next_access, access_by, Position, Lock, Within, RmeProcess, purpose_of, layout_of, machine_state_at, FitsPosition, position_of, Effect, IsStep, machine_after_step}
+use Rattle.rme_c.proofs.Common.{Place, Reply, Done, Script, puts, store_steps, record_of, length-store_steps, step-record, step-commit, step-entry, step-last, step-count, step-disarm, saturate, Purpose, next_access, access_by, Position, Within, RmeProcess, purpose_of, layout_of, machine_state_at, FitsPosition, position_of, Effect, IsStep, machine_after_step}
 use Rattle.redomail.specs.declared.reply.Reply.TheVariants.{Stored}
 use Rattle.redomail.specs.Layout.{place_at, last_at}
 use Rattle.rmecore.specs.Place as place
-use Rattle.rmecore.specs.declared.stage.Stage.TheVariants as stage
 use Rattle.rmeworld.specs.ProcessState.{Doing}
 use Rattle.rme_c.specs.Codes.{next_for_c}
 use Rattle.rme_c.specs.declared.process.RmeAccess.{RmeAccess}
@@ -167,12 +166,6 @@ module _ (p : RmeProcess) (seq closed count last : ℕ) (here : position_of p �
       let more : m.steps + 3 ≡ saturate (p.steps + 2 + 1) = omega (arith, few, steps) in
       let led : counted_at m (m.steps + 3) there ≡ fed_once (counted_at p (p.steps + 2) third) last = λ i. record { machine = exact i; steps = more i } in
       subst (λ x. IsStored x q s a) (led ∙ ap (λ x. fed_once x last) asked_from) makes
-
-  -- the third load leads to an answer
-  pub no_store : (m : RmeProcess) (y : Position) (t : Effect) → IsStep p third last m y t → y ≡ Lock stage.Inside → IsStore (next_access (fed_once (fed_two (counted_of p) closed count) last).machine) → ⊥
-  no_store m y t step is h =
-      let led : (fed_once (fed_two (counted_of p) closed count) last).machine ≡ machine_state_at m (Lock stage.Inside) = ap (λ x. (fed_once x last).machine) (sym asked_from) ∙ sym step.exact ∙ ap (machine_state_at m) is in
-      subst (λ (z : MachineState). IsStore (next_access z)) led h
 
   pub appended : (q : RmeProcess) (s : RmeStores) (a : RmeAccess) → ((0 < s.count) ↔ IsStore (next_access (fed_once (fed_two (counted_of p) closed count) last).machine)) → (s.count ≡ 0 → IsFedRun (fed_two (counted_of p) closed count) last q a s.reports) → (0 < s.count → IsStored (fed_once (fed_two (counted_of p) closed count) last) q s a) → IsAppended p closed count last q s a
   appended q s a when ended stored =

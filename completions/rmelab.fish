@@ -45,7 +45,7 @@ complete -c rmelab -n '__fish_seen_subcommand_from explore' -l algorithm -r -F -
 complete -c rmelab -n '__fish_seen_subcommand_from explore' -l procs -x -d '1 to 64 processes'
 complete -c rmelab -n '__fish_seen_subcommand_from explore' -l calls -x -d 'lock, unlock, recover, withdraw, and of a variant consistent, append and close, with commas; without it lock,unlock, with --stuck consistent too, and of an algorithm the calls of its text'
 complete -c rmelab -n '__fish_seen_subcommand_from explore' -l crashes -x -d 'At most C crashes; 0 without it'
-complete -c rmelab -n '__fish_seen_subcommand_from explore' -l system-crashes -x -d 'At most G crashes of all processes at once; 0 without it; not with --variant'
+complete -c rmelab -n '__fish_seen_subcommand_from explore' -l system-crashes -x -d 'At most G crashes of all processes at once; 0 without it'
 complete -c rmelab -n '__fish_seen_subcommand_from explore' -l moves -x -d 'At most K moves; no bound without it'
 complete -c rmelab -n '__fish_seen_subcommand_from explore' -l states -x -d 'At most S states; 10000000 without it'
 complete -c rmelab -n '__fish_seen_subcommand_from explore' -l limit -x -d 'Numbers up to L; 4 without it'

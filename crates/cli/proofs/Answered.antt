@@ -153,8 +153,7 @@ good_cycles given cycles asked unbounded (inr both) =
 good_search : (given : Given) (args : ExploreArgs) → IsExplore given args → IsBadSearch given ⊎ IsBadAlgorithmSearch given → ⊥
 good_search given args h (inl (some, inl calls)) = false≢true (sym calls ∙ h.known)
 good_search given args h (inl (some, inr (inl stuck))) = no_both (first_of (codes "moves") given) (h.unbounded (h.stuck ∙ stuck.0)) stuck.1
-good_search given args h (inl (some, inr (inr (inl starving)))) = good_cycles given args.starving h.starving h.no_bound starving
-good_search given args h (inl (some, inr (inr (inr together)))) = no_both (first_of (codes "system-crashes") given) h.no_system_crashes together
+good_search given args h (inl (some, inr (inr starving))) = good_cycles given args.starving h.starving h.no_bound starving
 good_search given args h (inr bad) = no_both (first_of (codes "algorithm") given) h.no_algorithm bad.0.algorithm
 
 good_algorithm_search : (given : Given) (args : AlgorithmExploreArgs) → IsAlgorithmExplore given args → IsBadSearch given ⊎ IsBadAlgorithmSearch given → ⊥

@@ -114,6 +114,7 @@ pub record IsExplore (given : Given) (args : ExploreArgs) : Type 0 where
   pub calls : args.calls ≡ alphabet_of (calls_of given)
   pub known : list_all is_call (calls_of given) ≡ true
   pub crashes : args.crashes ≡ number_or 0 (codes "crashes") given
+  pub system_crashes : args.system_crashes ≡ number_or 0 (codes "system-crashes") given
   pub moves : args.moves ≡ number_or 18446744073709551615 (codes "moves") given
   pub states : args.states ≡ number_or 10000000 (codes "states") given
   pub limit : args.limit ≡ number_or 4 (codes "limit") given
@@ -126,7 +127,6 @@ pub record IsExplore (given : Given) (args : ExploreArgs) : Type 0 where
   -- a search for stuck states or for starvation has no bound on moves
   pub unbounded : args.stuck ≡ true → IsNone (first_of (codes "moves") given)
   pub no_bound : IsSome args.starving → IsNone (first_of (codes "moves") given)
-  pub no_system_crashes : IsNone (first_of (codes "system-crashes") given)
   pub no_algorithm : IsNone (first_of (codes "algorithm") given)
 
 -- an algorithm is given to a search, and no option that its search does not have
@@ -320,12 +320,10 @@ IsStuckWithin given = (is_set (codes "stuck") given ≡ true) × IsSome (first_o
 abbrev pub IsBadStarving : Given → Type 0
 IsBadStarving given = AsksForNoCycles given ⊎ (IsSome (first_of (codes "starving") given) × IsSome (first_of (codes "moves") given))
 
--- a call of a variant's search is none, or its bound on moves is one too many, or its cycles have no name, or crashes of all are
--- asked for
+-- a call of a variant's search is none, or its bound on moves is one too many, or its cycles have no name
 abbrev pub IsBadSearch : Given → Type 0
 IsBadSearch given =
-    IsSome (first_of (codes "variant") given)
-    × ((list_all is_call (calls_of given) ≡ false) ⊎ (IsStuckWithin given ⊎ (IsBadStarving given ⊎ IsSome (first_of (codes "system-crashes") given))))
+    IsSome (first_of (codes "variant") given) × ((list_all is_call (calls_of given) ≡ false) ⊎ (IsStuckWithin given ⊎ IsBadStarving given))
 
 -- a call of an algorithm's search is none of an algorithm, or the same of its bound and its cycles
 abbrev pub IsBadAlgorithmSearch : Given → Type 0

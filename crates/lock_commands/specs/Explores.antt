@@ -14,6 +14,7 @@ use Rattle.explorer.specs.Fairness.{IsLassoOf, IsLeastLasso, IsNeverStarving}
 use Rattle.explorer.specs.Paths.{HasMoreStates, IsNumberOfStates}
 use Rattle.explorer.specs.Stuck.{LeadsToStuck, IsShortestToStuck, IsNeverStuck}
 use Rattle.crashlab.specs.declared.variants.variant.Variant.TheVariants.{Right}
+use Rattle.crashlab.specs.declared.space.crash_counts.CrashCounts.{CrashCounts}
 use Rattle.crashlab.specs.declared.space.moves.Move.{Move}
 use Rattle.crashlab.specs.space.Numbered.{numbered_rules}
 use Rattle.crashlab.specs.space.SearchStateWords.{search_state_words}
@@ -51,6 +52,10 @@ calls_of args =
 abbrev pub layout_of : ExploreArgs → Layout
 layout_of args = record { procs = args.procs; cap = args.cap; width = args.width }
 
+-- the most crashes of a schedule
+abbrev pub crash_counts : ExploreArgs → CrashCounts
+crash_counts args = record { alone = args.crashes; together = args.system_crashes }
+
 -- all variables distinguish the states of the search, or the live ones alone
 abbrev pub variables_by : Bool → Variables
 variables_by true = All
@@ -64,21 +69,21 @@ schedule_of args path = record { procs = args.procs; limit = args.limit; cap = a
 pub record TellsLeast (args : ExploreArgs) (before now : Tape) (end : Result Ending CommandFault) : Type 0 where
   pub wrong : args.variant ≢ Right
   pub path : List Move
-  pub found : IsFoundIn args.variant (layout_of args) args.limit args.crashes (calls_of args) path
-  pub least : IsShortestPath args.variant (layout_of args) args.limit args.crashes (calls_of args) path
+  pub found : IsFoundIn args.variant (layout_of args) args.limit (crash_counts args) (calls_of args) path
+  pub least : IsShortestPath args.variant (layout_of args) args.limit (crash_counts args) (calls_of args) path
   pub few : length path ≤ args.moves
   pub prints : Prints 1 (spelling (schedule_of args path)) before now end
 
 -- the variant fails on no schedule of at most this many moves, and that is written
 pub record TellsNoneWithin (args : ExploreArgs) (before now : Tape) (end : Result Ending CommandFault) : Type 0 where
-  pub none : NoneOfAtMost args.variant (layout_of args) args.limit args.crashes (calls_of args) args.moves
+  pub none : NoneOfAtMost args.variant (layout_of args) args.limit (crash_counts args) (calls_of args) args.moves
   pub prints : Prints 0 (within_line args.moves) before now end
 
 -- the variant fails on no schedule of any length, and that is written, with the number of states
 pub record TellsNone (args : ExploreArgs) (before now : Tape) (end : Result Ending CommandFault) : Type 0 where
-  pub none : NoneIsFound args.variant (layout_of args) args.limit args.crashes (calls_of args)
+  pub none : NoneIsFound args.variant (layout_of args) args.limit (crash_counts args) (calls_of args)
   pub states : ℕ
-  pub number : IsNumberOfStates (rules (key_by (variables_by args.all_variables))) (first_search_state args.variant (layout_of args) args.limit args.crashes (calls_of args)) states
+  pub number : IsNumberOfStates (rules (key_by (variables_by args.all_variables))) (first_search_state args.variant (layout_of args) args.limit (crash_counts args) (calls_of args)) states
   pub prints : Prints 0 (all_line states) before now end
 
 -- no world has these sizes, or no value has this width
@@ -87,7 +92,7 @@ IsNoSize args = (new_refusal (layout_of args) args.limit ≡ None → ⊥) ⊎ (
 
 -- breadth-first search within the bound of moves comes to more states than may be kept, before one with a fault, and nothing was written
 pub record HasTooMany (args : ExploreArgs) (before now : Tape) : Type 0 where
-  pub more : EndsOnMany (numbered_rules (key_by (variables_by args.all_variables))) (first_search_state args.variant (layout_of args) args.limit args.crashes (calls_of args)) args.moves args.states
+  pub more : EndsOnMany (numbered_rules (key_by (variables_by args.all_variables))) (first_search_state args.variant (layout_of args) args.limit (crash_counts args) (calls_of args)) args.moves args.states
   pub silent : Silent before now
 
 -- how `explore` ends without `--stuck` and `--starving`
@@ -104,29 +109,29 @@ ShortestEnds args before now end =
 pub record TellsWrong (args : ExploreArgs) (before now : Tape) (end : Result Ending CommandFault) : Type 0 where
   pub wrong : args.variant ≢ Right
   pub path : List Move
-  pub found : IsFoundIn args.variant (layout_of args) args.limit args.crashes (calls_of args) path
-  pub least : IsShortestPath args.variant (layout_of args) args.limit args.crashes (calls_of args) path
+  pub found : IsFoundIn args.variant (layout_of args) args.limit (crash_counts args) (calls_of args) path
+  pub least : IsShortestPath args.variant (layout_of args) args.limit (crash_counts args) (calls_of args) path
   pub prints : Prints 1 (spelling (schedule_of args path)) before now end
 
 -- the variant fails on no schedule; one of fewest moves to a state from which no starts and steps lead home is written
 pub record TellsStuck (args : ExploreArgs) (before now : Tape) (end : Result Ending CommandFault) : Type 0 where
-  pub none : NoneIsFound args.variant (layout_of args) args.limit args.crashes (calls_of args)
+  pub none : NoneIsFound args.variant (layout_of args) args.limit (crash_counts args) (calls_of args)
   pub path : List Move
-  pub stuck : LeadsToStuck (rules search_state_words) (first_search_state args.variant (layout_of args) args.limit args.crashes (calls_of args)) path
-  pub least : IsShortestToStuck (rules search_state_words) (first_search_state args.variant (layout_of args) args.limit args.crashes (calls_of args)) path
+  pub stuck : LeadsToStuck (rules search_state_words) (first_search_state args.variant (layout_of args) args.limit (crash_counts args) (calls_of args)) path
+  pub least : IsShortestToStuck (rules search_state_words) (first_search_state args.variant (layout_of args) args.limit (crash_counts args) (calls_of args)) path
   pub prints : Prints 1 (spelling (schedule_of args path)) before now end
 
 -- the variant fails on no schedule, from each state starts and steps lead home, and that is written, with the number of states
 pub record TellsNeverStuck (args : ExploreArgs) (before now : Tape) (end : Result Ending CommandFault) : Type 0 where
-  pub none : NoneIsFound args.variant (layout_of args) args.limit args.crashes (calls_of args)
-  pub never : IsNeverStuck (rules search_state_words) (first_search_state args.variant (layout_of args) args.limit args.crashes (calls_of args))
+  pub none : NoneIsFound args.variant (layout_of args) args.limit (crash_counts args) (calls_of args)
+  pub never : IsNeverStuck (rules search_state_words) (first_search_state args.variant (layout_of args) args.limit (crash_counts args) (calls_of args))
   pub states : ℕ
-  pub number : IsNumberOfStates (rules search_state_words) (first_search_state args.variant (layout_of args) args.limit args.crashes (calls_of args)) states
+  pub number : IsNumberOfStates (rules search_state_words) (first_search_state args.variant (layout_of args) args.limit (crash_counts args) (calls_of args)) states
   pub prints : Prints 0 (never_line states) before now end
 
 -- there are more states than may be kept, and nothing was written
 pub record HasTooManyAtAll (args : ExploreArgs) (before now : Tape) : Type 0 where
-  pub more : HasMoreStates (rules search_state_words) (first_search_state args.variant (layout_of args) args.limit args.crashes (calls_of args)) args.states
+  pub more : HasMoreStates (rules search_state_words) (first_search_state args.variant (layout_of args) args.limit (crash_counts args) (calls_of args)) args.states
   pub silent : Silent before now
 
 -- how `explore --stuck` ends
@@ -144,20 +149,20 @@ pub record TellsStarving (args : ExploreArgs) (cycles : Cycles) (before now : Ta
   pub process : ℕ
   pub stem : List Move
   pub cycle : List Move
-  pub lasso : IsLassoOf world_rules fairness (is_any cycles) (first_search_state args.variant (layout_of args) args.limit args.crashes (calls_of args)) process stem cycle
-  pub least : IsLeastLasso world_rules fairness (is_any cycles) (first_search_state args.variant (layout_of args) args.limit args.crashes (calls_of args)) (length stem + length cycle)
+  pub lasso : IsLassoOf world_rules fairness (is_any cycles) (first_search_state args.variant (layout_of args) args.limit (crash_counts args) (calls_of args)) process stem cycle
+  pub least : IsLeastLasso world_rules fairness (is_any cycles) (first_search_state args.variant (layout_of args) args.limit (crash_counts args) (calls_of args)) (length stem + length cycle)
   pub prints : Prints 1 (spelling (schedule_of args (stem ++ cycle)) ++ starves_line process (length cycle)) before now end
 
 -- no process starves, and that is written, with the number of worlds
 pub record TellsNeverStarving (args : ExploreArgs) (cycles : Cycles) (before now : Tape) (end : Result Ending CommandFault) : Type 0 where
-  pub never : IsNeverStarving world_rules fairness (is_any cycles) (first_search_state args.variant (layout_of args) args.limit args.crashes (calls_of args))
+  pub never : IsNeverStarving world_rules fairness (is_any cycles) (first_search_state args.variant (layout_of args) args.limit (crash_counts args) (calls_of args))
   pub states : ℕ
-  pub number : IsNumberOfStates world_rules (first_search_state args.variant (layout_of args) args.limit args.crashes (calls_of args)) states
+  pub number : IsNumberOfStates world_rules (first_search_state args.variant (layout_of args) args.limit (crash_counts args) (calls_of args)) states
   pub prints : Prints 0 (never_starving_line states) before now end
 
 -- there are more worlds than may be kept, and nothing was written
 pub record HasTooManyWorlds (args : ExploreArgs) (before now : Tape) : Type 0 where
-  pub more : HasMoreStates world_rules (first_search_state args.variant (layout_of args) args.limit args.crashes (calls_of args)) args.states
+  pub more : HasMoreStates world_rules (first_search_state args.variant (layout_of args) args.limit (crash_counts args) (calls_of args)) args.states
   pub silent : Silent before now
 
 -- how `explore --starving` ends

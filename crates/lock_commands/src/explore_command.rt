@@ -3,7 +3,7 @@
 ghost use Rattle.std.specs.Prelude.{◌≡◌, ◌++◌, false, ◌≤◌, take, replicate, IfErr, IfOk, IfSome, IsSome, OnOk, ◌↔◌};
 ghost use Rattle.command_parts.specs.Endings.{IsEnded, Prints};
 ghost use Rattle.schedule.specs.Schedules.{spelling};
-ghost use Rattle.lock_commands.specs.Explores.{appends as appends_of, calls_of as calls_asked, ExploreEnds, ShortestEnds, schedule_of as schedule_by, variables_by};
+ghost use Rattle.lock_commands.specs.Explores.{appends as appends_of, calls_of as calls_asked, crash_counts, ExploreEnds, ShortestEnds, schedule_of as schedule_by, variables_by};
 ghost use Rattle.crashlab.specs.space.Spaces.{line_by};
 
 use crate::starvation::{tell_both, tell_starving};
@@ -13,7 +13,8 @@ use command_parts::findings::{tell_all, tell_schedule, tell_within};
 use command_parts::options::{jobs_of, put_call};
 use command_parts::{CommandFault, Ending, Meter, Screen, Work};
 use lock_explorer::{
-    Bounds, ExploreFault, Move, SearchOutcome, Variables, shortest_schedule_in_parallel,
+    Bounds, CrashCounts, ExploreFault, Move, SearchOutcome, Variables,
+    shortest_schedule_in_parallel,
 };
 use redomail::Layout;
 use rmecore::Body;
@@ -78,6 +79,7 @@ fn line_of_move(made: &Move) -> Line
         Move::Start(p, call) => Line::Start(p, call),
         Move::Step(p) => Line::Step(p, Count::ONE),
         Move::Crash(p) => Line::Crash(p),
+        Move::CrashAll => Line::CrashAll,
     }
 }
 
@@ -115,6 +117,16 @@ pub(crate) fn tell_path<W: Sink>(
     tell_schedule(alloc, &schedule, w)
 }
 
+/// The most crashes of a schedule.
+pub(crate) fn counts_of(args: &ExploreArgs) -> CrashCounts
+    ensures { result ≡ crash_counts args.now }
+{
+    CrashCounts {
+        alone: args.crashes,
+        together: args.system_crashes,
+    }
+}
+
 /// The variables that distinguish the states of the search.
 fn variables_of(args: &ExploreArgs) -> Variables
     ensures { result ≡ variables_by args.now.all_variables }
@@ -146,7 +158,7 @@ fn tell_shortest<T: Threads + Sync, S: Screen, W: Sink>(
         width: args.width,
     };
     let bounds = Bounds {
-        crashes: args.crashes,
+        crashes: counts_of(args),
         moves: args.moves,
         states: args.states,
     };

@@ -6,7 +6,7 @@ ghost use Rattle.schedule.specs.Schedules.{spelling};
 ghost use Rattle.lock_commands.specs.Explores.{BothEnd, StarvingEnds, schedule_of as schedule_by};
 ghost use Rattle.command_parts.specs.Findings.{starves_line as starves_line_by};
 
-use crate::explore_command::{calls_of, schedule_of};
+use crate::explore_command::{calls_of, counts_of, schedule_of};
 use crate::stuck::tell_stuck;
 use cli::arguments::args::{Cycles, ExploreArgs};
 use command_parts::findings::{tell_never_starving, tell_starves};
@@ -55,7 +55,7 @@ pub(crate) fn tell_starving<S: Screen, W: Sink>(
         width: args.width,
     };
     let bounds = StuckBounds {
-        crashes: args.crashes,
+        crashes: counts_of(args),
         states: args.states,
     };
     let calls = calls_of(alloc, args)?;

@@ -7,7 +7,7 @@ ghost use Rattle.lock_commands.specs.Explores.{IsNoSize};
 ghost use Rattle.lock_commands.specs.States.{machine_of as machine_by, start_of, states_run, StatesEnds, words_of};
 ghost use Rattle.command_parts.specs.StateTexts.{ToolEnds};
 
-use crate::explore_command::{calls_of, tell_path};
+use crate::explore_command::{calls_of, counts_of, tell_path};
 use crate::machine_text::machine_of;
 use cli::arguments::args::{ExploreArgs, StatesArgs, StatesTool};
 use command_parts::states::expansion::expand_input;
@@ -45,7 +45,7 @@ fn explorer_of(alloc: Global, args: &ExploreArgs) -> Result<Explorer, CommandFau
         args.variant,
         layout,
         args.limit,
-        args.crashes,
+        counts_of(args),
         &calls,
     ) {
         Ok(explorer) => Ok(explorer),
@@ -74,7 +74,13 @@ fn walk_command<R: Source, W: Sink>(
 {
     let numbers = walk_of_input(alloc, here, machine, form, r)?;
     let calls = calls_of(alloc, &args.search)?;
-    let path = moves_of_path(alloc, &calls, args.search.procs, &numbers)?;
+    let path = moves_of_path(
+        alloc,
+        &calls,
+        args.search.procs,
+        counts_of(&args.search),
+        &numbers,
+    )?;
     tell_path(alloc, &args.search, &path, w)
 }
 

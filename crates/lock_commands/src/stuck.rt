@@ -4,7 +4,7 @@ ghost use Rattle.std.specs.Prelude.{false, IfOk};
 ghost use Rattle.command_parts.specs.Endings.{IsEnded};
 ghost use Rattle.lock_commands.specs.Explores.{StuckEnds};
 
-use crate::explore_command::{calls_of, tell_path};
+use crate::explore_command::{calls_of, counts_of, tell_path};
 use cli::arguments::args::ExploreArgs;
 use command_parts::findings::tell_never;
 use command_parts::{CommandFault, Ending, Meter, Screen, Work};
@@ -33,7 +33,7 @@ pub(crate) fn tell_stuck<S: Screen, W: Sink>(
         width: args.width,
     };
     let bounds = StuckBounds {
-        crashes: args.crashes,
+        crashes: counts_of(args),
         states: args.states,
     };
     let calls = calls_of(alloc, args)?;

@@ -7,7 +7,7 @@ use diagram::{
 };
 use explorer::{MoveVerdict, SearchFault, SearchOutcome, Space, Unwatched, Watch, search};
 use judge::Judge;
-use lock_explorer::{Bounds, ExploreFault, Move, Variables, shortest_schedule};
+use lock_explorer::{Bounds, CrashCounts, ExploreFault, Move, Variables, shortest_schedule};
 use redomail::Layout;
 use rmeworld::{Call, Image, Machine};
 use schedule::{OutOfMemory, ReplayFault, Schedule, Sink, Verdict};
@@ -47,6 +47,7 @@ pub fn in_variants(
     };
     let process = match made {
         Move::Start(p, _) | Move::Step(p) | Move::Crash(p) => p,
+        Move::CrashAll => 0,
     };
     let has_given_up = match fault {
         ExploreFault::TooManyStates => true,
@@ -63,7 +64,7 @@ pub fn searched_for_schedule<W: Watch>(
     limit: u64,
     calls: &[Call],
     variables: Variables,
-    (crashes, moves, states): (u64, u64, u64),
+    (crashes, moves, states): (CrashCounts, u64, u64),
     watch: &mut W,
 ) -> Result<SearchOutcome<Move>, ExploreFault> {
     let bounds = Bounds {

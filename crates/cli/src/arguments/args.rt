@@ -113,8 +113,10 @@ pub struct ExploreArgs {
     pub variant: Variant,
     pub procs: u64,
     pub calls: Alphabet,
-    /// The most crashes of a schedule.
+    /// The most crashes of a process alone in a schedule.
     pub crashes: u64,
+    /// The most crashes of all processes at once in a schedule.
+    pub system_crashes: u64,
     /// The most moves of a schedule.
     pub moves: u64,
     /// The most states that are kept.

@@ -134,7 +134,7 @@ pub const EXPLORE: [Argument<'static>; 15] = [
     Argument::Number(
         "system-crashes",
         "G",
-        "At most G crashes of all processes at once; 0 without it; not with --variant",
+        "At most G crashes of all processes at once; 0 without it",
     ),
     Argument::Number("moves", "K", "At most K moves; no bound without it"),
     Argument::Number("states", "S", "At most S states; 10000000 without it"),

@@ -254,14 +254,12 @@ pub(crate) fn variant_search(
         });
     }
     let variant = variant_of(matches, "")?;
-    if is_given(matches, "system-crashes") {
-        return Err(WordsFault::BadSize);
-    }
     Ok(ExploreArgs {
         variant,
         procs: number_of(matches, "procs"),
         calls: alphabet_of(alloc, matches)?,
         crashes: number_of(matches, "crashes"),
+        system_crashes: number_or(matches, "system-crashes", 0),
         moves: number_or(matches, "moves", u64::MAX),
         states: number_or(matches, "states", 10_000_000),
         limit: number_or(matches, "limit", 4),

@@ -34,8 +34,8 @@ no-look --seed 1 --rounds 10000 --steps 1000";
 
 const EXPLORE_HELP: &str =
     "In: nothing; with --algorithm the algorithm's text: docs/use/algorithms.md. All schedules are tried \
-whose moves are the start of a call of --calls, one step, a crash, of which there are at most --crashes, or, of an \
-algorithm, a crash of all processes, of which there are at most --system-crashes: the shorter before the longer. Two \
+whose moves are the start of a call of --calls, one step, a crash, of which there are at most --crashes, or a crash of \
+all processes, of which there are at most --system-crashes: the shorter before the longer. Two \
 worlds are one state if their words, their processes, the judge and the crashes left are the same; with --starving \
 the judge is left out. Of a process those variables count that a move may still read; all do with --all-variables or, \
 of a variant, --stuck or --starving.\nOut: the schedule of fewest moves that goes wrong, which `rmelab replay` with \

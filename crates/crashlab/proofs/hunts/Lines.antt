@@ -96,7 +96,7 @@ steps_lock l s h p (suc k) lock may =
     by true one may on = subst (λ ds. IsLock l (variant_after_step s p) (h ++ ds)) (sym (append-nil (list_of (variant_step_report s p).deed))) one
     by false one may on = subst (IsLock l (after_steps (variant_after_step s p) p k)) (append_assoc h (list_of (variant_step_report s p).deed) (deeds_of_steps (variant_after_step s p) p k)) (on may)
 
-crashes_lock : (l : Layout) (s : VariantState) (h : List Deed) (p n : ℕ) → IsLock l s h → p + n ≤ s.layout.procs → IsLock l (after_crashes s p n) (h ++ map crash_deed (range_with_len p n))
+pub crashes_lock : (l : Layout) (s : VariantState) (h : List Deed) (p n : ℕ) → IsLock l s h → p + n ≤ s.layout.procs → IsLock l (after_crashes s p n) (h ++ map crash_deed (range_with_len p n))
 crashes_lock l s h p zero lock low = subst (IsLock l s) (sym (append-nil h)) lock
 crashes_lock l s h p (suc n) lock low =
     let there : nat_lt p s.layout.procs ≡ true = lt-ltb p s.layout.procs (omega (arith, low)) in

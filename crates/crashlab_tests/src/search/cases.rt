@@ -2,6 +2,7 @@
 //! and then what comes of it.
 
 use crate::search::{jug_searches, jug_sets, schedules, worlds};
+use lock_explorer::CrashCounts;
 use std::alloc::Global;
 use std::test::Fail;
 
@@ -49,6 +50,15 @@ fn words(line: &str) -> [&str; 8] {
 /// The number that a word spells. Where it spells none, no case expects what comes of it.
 pub fn number(word: &str) -> u64 {
     word.parse().unwrap_or(u64::MAX)
+}
+
+/// The numbers of crashes that a word spells: of one process, and after `+` of all.
+pub fn crashes_in(word: &str) -> CrashCounts {
+    let (alone, together) = word.split_once('+').unwrap_or((word, "0"));
+    CrashCounts {
+        alone: number(alone),
+        together: number(together),
+    }
 }
 
 /// Does what the words say with what is given, and writes what comes of it.

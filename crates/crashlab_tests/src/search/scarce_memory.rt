@@ -5,7 +5,9 @@ use crate::search::jugs::{Jugs, Pour};
 use crate::search::schedules::Sizes;
 use crashlab::{HuntFault, Variant, hunt, hunt_in_parallel};
 use explorer::{SearchFault, SearchOutcome, Unwatched, search, search_in_parallel};
-use lock_explorer::{Bounds, ExploreFault, Move, Variables, shortest_schedule_in_parallel};
+use lock_explorer::{
+    Bounds, CrashCounts, ExploreFault, Move, Variables, shortest_schedule_in_parallel,
+};
 use redomail::Layout;
 use rmeworld::Call;
 use schedule::{Schedule, write_schedule};
@@ -121,7 +123,10 @@ const SIZES: Sizes = Sizes {
     },
     limit: 1,
     bounds: Bounds {
-        crashes: 1,
+        crashes: CrashCounts {
+            alone: 1,
+            together: 1,
+        },
         moves: 100,
         states: 1_000,
     },

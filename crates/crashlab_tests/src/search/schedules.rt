@@ -2,7 +2,7 @@
 //! in bench/explore.
 
 use crate::search::cases;
-use crate::search::cases::number;
+use crate::search::cases::{crashes_in, number};
 use crate::texts::kit::variant_named;
 use crashlab::{Variant, VariantWorld};
 use judge::Judge;
@@ -16,9 +16,9 @@ use std::alloc::Global;
 use std::fmt::Write;
 use std::test::Fail;
 
-/// The variant, the processes, the crashes, the limit, the room for messages, the most moves and states, and the variables that
-/// distinguish states: of all variables and of the live ones a shortest schedule is the same. What comes of it is the number of
-/// moves, and the fault of the last deed.
+/// The variant, the processes, the crashes (of one process, and after `+` of all), the limit, the room for messages, the most moves
+/// and states, and the variables that distinguish states: of all variables and of the live ones a shortest schedule is the same. What
+/// comes of it is the number of moves, and the fault of the last deed.
 pub const SHORTEST: &str = "\
 == no-look 2 0 1 1 20 1000000 both
 20 moves: Ok(Some(TwoInside))
@@ -34,12 +34,20 @@ Ok(NoneWithin)
 Ok(NoneWithin)
 == exit-on-crash 1 1 1 1 16 1000000 both
 16 moves: Ok(Some(OutOfPlace))
+== renumber 2 0+1 3 1 26 1000000 both
+26 moves: Ok(Some(Overtaken { by: 1, of: 0 }))
 == exit-on-crash 1 1 1 1 15 1000000 both
+Ok(NoneWithin)
+== exit-on-crash 2 0+1 1 1 19 1000000 both
+19 moves: Ok(Some(OutOfPlace))
+== exit-on-crash 2 0+1 1 1 18 1000000 both
 Ok(NoneWithin)
 == count-up 1 1 1 2 40 1000000 both
 40 moves: Ok(Some(MailOrder))
 == count-up 1 1 1 2 39 1000000 both
 Ok(NoneWithin)
+== count-up 1 0+1 1 2 40 1000000 both
+40 moves: Ok(Some(MailOrder))
 == last-skipped 1 1 1 2 42 1000000 both
 42 moves: Ok(Some(MailOrder))
 == last-skipped 1 1 1 2 41 1000000 both
@@ -61,6 +69,10 @@ Err(TooManyStates)
 Ok(NoneWithin)
 == right 2 1 4 1 40 3161 live
 Err(TooManyStates)
+== right 2 1+1 1 1 1000 9661 all
+Err(TooManyStates)
+== right 65 0+1 1 1 1 1000000 all
+Err(Refused(BadProcs))
 == right 65 0 1 1 1 1000000 all
 Err(Refused(BadProcs))
 == right 65 0 1 1 1 1000000 live
@@ -78,6 +90,16 @@ Ok(Nowhere(6031))
 Ok(Nowhere(24774))
 == right 2 2 4 1 1000 1000000 live
 Ok(Nowhere(17289))
+== right 2 0+1 4 1 1000 1000000 all
+Ok(Nowhere(11277))
+== right 2 0+1 4 1 1000 1000000 live
+Ok(Nowhere(9489))
+== right 2 1+1 1 1 1000 1000000 all
+Ok(Nowhere(9662))
+== right 2 1+1 1 1 1000 1000000 live
+Ok(Nowhere(6689))
+== right 2 0+2 2 1 1000 1000000 all
+Ok(Nowhere(12901))
 == right 3 0 3 1 1000 1000000 all
 Ok(Nowhere(43762))
 == right 3 0 3 1 1000 1000000 live
@@ -129,6 +151,17 @@ impl Sizes {
     }
 }
 
+/// Crashes every process. The judge allows each crash.
+fn crash_all(world: &mut VariantWorld, judge: &mut Judge) -> Result<(), Refusal> {
+    for p in 0..world.layout().procs {
+        let deed = world.crash(p)?;
+        if judge.feed(deed).is_err() {
+            return Err(Refusal::NoSuchProcess);
+        }
+    }
+    Ok(())
+}
+
 /// The fault of the last deed of these moves. None where the judge allows it, or refuses an earlier one.
 fn judged_on(
     world: &mut VariantWorld,
@@ -147,6 +180,10 @@ fn judged_on(
             }
             Move::Step(p) => world.advance(p)?.deed,
             Move::Crash(p) => Some(world.crash(p)?),
+            Move::CrashAll => {
+                crash_all(world, judge)?;
+                None
+            }
         };
         if let Some(deed) = deed {
             fault = judge.feed(deed).err();
@@ -217,7 +254,7 @@ pub fn put_shortest(alloc: Global, words: &[&str; 8], text: &mut String) -> Resu
         },
         limit: number(limit),
         bounds: Bounds {
-            crashes: number(crashes),
+            crashes: crashes_in(crashes),
             moves: number(moves),
             states: number(states),
         },

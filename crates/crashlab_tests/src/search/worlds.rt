@@ -1,7 +1,7 @@
 //! Searches for stuck states, and for a process that starves, among the worlds of the right lock. The counts of worlds are those of the
 //! plain program in bench/explore; for starving those of the reference program, on the text that is the lock.
 
-use crate::search::cases::number;
+use crate::search::cases::{crashes_in, number};
 use crashlab::Variant;
 use lock_explorer::{StarvingOutcome, StuckBounds, Unwatched, starving_schedule, stuck_schedule};
 use redomail::Layout;
@@ -17,8 +17,12 @@ pub const STUCK: &str = "\
 Ok(NeverStuck(7913))
 == 2 4 1 7912 with-consistent
 Err(TooManyStates)
+== 2 1 0+1 3089 with-consistent
+Ok(NeverStuck(3089))
 == 1 1 0 1000 lock
 Ok(Stuck([Start(0, Lock)]))
+== 1 1 0+1 1000 lock-and-unlock
+Ok(Stuck([Start(0, Lock), Step(0), Step(0), Step(0), Step(0), Step(0), Step(0), Step(0), CrashAll]))
 == 1 1 1 1000 lock-and-unlock
 Ok(Stuck([Start(0, Lock), Step(0), Step(0), Step(0), Step(0), Step(0), Step(0), Step(0), Crash(0)]))
 ";
@@ -39,6 +43,8 @@ Err(Refused(BadLimit))
 == 1 0 211 lock-and-unlock any
 0 starves: 8 moves, then again and again 8
 == 1 1 10000 lock-and-unlock any
+0 starves: 8 moves, then again and again 8
+== 1 0+1 10000 lock-and-unlock any
 0 starves: 8 moves, then again and again 8
 == 4 0 1000 lock-and-unlock any
 0 starves: 53 moves, then again and again 8
@@ -76,7 +82,7 @@ pub fn put_stuck(alloc: Global, words: &[&str; 8], text: &mut String) -> Result<
     let (all, made) = calls_named(calls);
     let all = all.as_slice();
     let bounds = StuckBounds {
-        crashes: number(crashes),
+        crashes: crashes_in(crashes),
         states: number(states),
     };
     let found = stuck_schedule(
@@ -99,7 +105,7 @@ pub fn put_starving(alloc: Global, words: &[&str; 8], text: &mut String) -> Resu
     let (all, made) = calls_named(calls);
     let all = all.as_slice();
     let bounds = StuckBounds {
-        crashes: number(crashes),
+        crashes: crashes_in(crashes),
         states: number(states),
     };
     let found = starving_schedule(

@@ -56,22 +56,22 @@ Run(RunArgs { procs: 16, messages: 4096, crash: 50, seed: 7, width: 8 })
 
 rmelab explore --variant right --procs 2
 Explore(ExploreArgs { variant: Right, procs: 2, calls: Alphabet { lock: true, unlock: true, recover: false, consistent: false, \
-withdraw: false, append: false, close: false }, crashes: 0, moves: 18446744073709551615, states: 10000000, limit: 4, cap: 1, \
+withdraw: false, append: false, close: false }, crashes: 0, system_crashes: 0, moves: 18446744073709551615, states: 10000000, limit: 4, cap: 1, \
 width: 1, stuck: false, starving: None, all_variables: false, jobs: 0 })
 
 rmelab explore --variant right --procs 2 --calls unlock,lock,lock
 Explore(ExploreArgs { variant: Right, procs: 2, calls: Alphabet { lock: true, unlock: true, recover: false, consistent: false, \
-withdraw: false, append: false, close: false }, crashes: 0, moves: 18446744073709551615, states: 10000000, limit: 4, cap: 1, \
+withdraw: false, append: false, close: false }, crashes: 0, system_crashes: 0, moves: 18446744073709551615, states: 10000000, limit: 4, cap: 1, \
 width: 1, stuck: false, starving: None, all_variables: false, jobs: 0 })
 
 rmelab explore --variant right --procs 2 --calls close,append
 Explore(ExploreArgs { variant: Right, procs: 2, calls: Alphabet { lock: false, unlock: false, recover: false, consistent: false, \
-withdraw: false, append: true, close: true }, crashes: 0, moves: 18446744073709551615, states: 10000000, limit: 4, cap: 1, \
+withdraw: false, append: true, close: true }, crashes: 0, system_crashes: 0, moves: 18446744073709551615, states: 10000000, limit: 4, cap: 1, \
 width: 1, stuck: false, starving: None, all_variables: false, jobs: 0 })
 
 rmelab explore --variant right --procs 2 --stuck --starving any
 Explore(ExploreArgs { variant: Right, procs: 2, calls: Alphabet { lock: true, unlock: true, recover: false, consistent: true, \
-withdraw: false, append: false, close: false }, crashes: 0, moves: 18446744073709551615, states: 10000000, limit: 4, cap: 1, \
+withdraw: false, append: false, close: false }, crashes: 0, system_crashes: 0, moves: 18446744073709551615, states: 10000000, limit: 4, cap: 1, \
 width: 1, stuck: true, starving: Some(Any), all_variables: false, jobs: 0 })
 
 rmelab explore --algorithm a.lock --procs 2 --starving
@@ -118,7 +118,7 @@ StepAlgorithm(AlgorithmStepArgs { algorithm: \"a.lock\", file: Some(\"b.rme\") }
 
 rmelab states check --variant right --procs 2 --part 1 --parts 3 a.states
 States(StatesArgs { search: ExploreArgs { variant: Right, procs: 2, calls: Alphabet { lock: true, unlock: true, recover: false, \
-consistent: false, withdraw: false, append: false, close: false }, crashes: 0, moves: 18446744073709551615, states: 10000000, \
+consistent: false, withdraw: false, append: false, close: false }, crashes: 0, system_crashes: 0, moves: 18446744073709551615, states: 10000000, \
 limit: 4, cap: 1, width: 1, stuck: false, starving: None, all_variables: false, jobs: 0 }, stream: StreamArgs { tool: Check, \
 words: 0, digits: 2, part: 1, parts: 3, file: Some(\"a.states\") } })
 

@@ -228,7 +228,6 @@ pub const SEARCHES_OF_ALGORITHMS: &str = "
 @row rmelab explore --algorithm a.lock --procs 2 --limit 1 --system-crashes 1 --calls lock,unlock @file a.lock BAKERY_RUIN @out
 nothing found: all 2925 states
 @row rmelab explore --algorithm a.lock --procs 2 --limit 1 --system-crashes 1 --stuck @file a.lock PETERSON @out CRASH_OF_ALL @ends 1
-@row rmelab explore --variant right --procs 2 --system-crashes 1 @ends 2 @err BAD_SIZE
 @row rmelab explore --variant wrong --procs 2 --system-crashes 1 @ends 2 @err BAD_VARIANT
 @row rmelab explore --algorithm a.lock --procs 2 @file a.lock ONE_WORD @out TWO_AT_ONCE @ends 1
 @row rmelab explore --algorithm a.lock --procs 2 --limit 1 --moves 19 --jobs 1 @file a.lock NO_LOOK @out

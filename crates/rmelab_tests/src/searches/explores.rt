@@ -49,6 +49,27 @@ step 0
 step 0
 step 0
 step 0
+@text ALL_OUT
+rme 1 procs 2 limit 1 cap 1
+lock 0
+step 0
+step 0
+step 0
+step 0
+step 0
+step 0
+step 0
+step 0
+step 0
+step 0
+crash all
+lock 0
+step 0
+step 0
+step 0
+step 0
+step 0
+step 0
 @text KEPT
 rme 1 procs 2 limit 1 cap 1
 lock 0
@@ -154,6 +175,14 @@ step 1
 step 1
 step 1
 @row rmelab explore --variant exit-on-crash --procs 1 --limit 1 --crashes 1 --stuck @out GONE_OUT @ends 1
+@row rmelab explore --variant exit-on-crash --procs 2 --limit 1 --system-crashes 1 @out ALL_OUT @ends 1
+@row rmelab explore --variant exit-on-crash --procs 2 --limit 1 --system-crashes 1 --stuck @out ALL_OUT @ends 1
+@row rmelab explore --variant right --procs 2 --limit 1 --crashes 1 --system-crashes 1 --jobs 2 @out
+nothing found: all 6689 states
+@row rmelab explore --variant right --procs 2 --limit 1 --crashes 1 --system-crashes 1 --all-variables @out
+nothing found: all 9662 states
+@row rmelab explore --variant right --procs 2 --limit 1 --system-crashes 1 --stuck @out
+never stuck: all 3089 states
 @row rmelab explore --variant right --procs 2 --starving @out
 never starving: all 799 states
 @row rmelab explore --variant right --procs 2 --calls lock,unlock,withdraw --limit 2 --starving @out

@@ -4,7 +4,9 @@ use crate::support::watching::Report;
 use crashlab::hunts::hunt_watched;
 use crashlab::{HuntFault, Variant, hunt, hunt_in_parallel, hunt_in_parallel_watched};
 use explorer::Unwatched;
-use lock_explorer::{Bounds, Variables, shortest_schedule, shortest_schedule_in_parallel};
+use lock_explorer::{
+    Bounds, CrashCounts, Variables, shortest_schedule, shortest_schedule_in_parallel,
+};
 use redomail::Layout;
 use rmeworld::Call;
 use schedule::{Schedule, write_schedule};
@@ -112,18 +114,23 @@ fn each_round_is_reported_once(rt: HostRuntime) -> Result<(), Fail> {
     Ok(())
 }
 
-/// Variants, and the processes, the crashes and the limit of a search, which finds a schedule for each but the right lock.
-const SEARCHES: [(Variant, u64, u64, u64); 6] = [
-    (Variant::Right, 1, 0, 1),
-    (Variant::Right, 2, 1, 4),
-    (Variant::NoLook, 2, 0, 1),
-    (Variant::NoTies, 2, 0, 1),
-    (Variant::Renumber, 2, 1, 3),
-    (Variant::ExitOnCrash, 2, 1, 1),
+/// Variants, and the processes, the crashes of one process and of all, and the limit of a search, which finds a schedule for each but
+/// the right lock.
+const SEARCHES: [(Variant, u64, u64, u64, u64); 7] = [
+    (Variant::Right, 1, 0, 0, 1),
+    (Variant::Right, 2, 1, 0, 4),
+    (Variant::Right, 2, 1, 1, 1),
+    (Variant::NoLook, 2, 0, 0, 1),
+    (Variant::NoTies, 2, 0, 0, 1),
+    (Variant::Renumber, 2, 1, 0, 3),
+    (Variant::ExitOnCrash, 2, 0, 1, 1),
 ];
 
 const BOUNDS: Bounds = Bounds {
-    crashes: 0,
+    crashes: CrashCounts {
+        alone: 0,
+        together: 0,
+    },
     moves: 1_000,
     states: 10_000,
 };
@@ -177,13 +184,16 @@ fn first_different(
     alloc: Global,
     variables: Variables,
 ) -> Option<Variant> {
-    for (variant, procs, crashes, limit) in SEARCHES {
+    for (variant, procs, alone, together, limit) in SEARCHES {
         let layout = Layout {
             procs,
             cap: 1,
             width: 1,
         };
-        let bounds = Bounds { crashes, ..BOUNDS };
+        let bounds = Bounds {
+            crashes: CrashCounts { alone, together },
+            ..BOUNDS
+        };
         if !searches_the_same(rt, alloc, variant, layout, limit, variables, &bounds) {
             return Some(variant);
         }

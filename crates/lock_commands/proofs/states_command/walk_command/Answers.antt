@@ -1,7 +1,7 @@
 use Rattle.std.proofs.Common.{◌≡◌, map, ap, ◌∙◌, subst}
 use Rattle.std.proofs.lemmas.Result.{err_from_is_err_and}
 use Rattle.crashlab.specs.space.Numbered.{move_by}
-use Rattle.crashlab.specs.space.Spaces.{alphabet}
+use Rattle.crashlab.specs.space.Spaces.{moves_to_try}
 use Rattle.lock_explorer.specs.Boards.{search_state_of}
 use Rattle.schedule.specs.Schedules.{spelling}
 use Rattle.cli.specs.declared.arguments.args.StatesTool.TheVariants.{Walk}
@@ -30,6 +30,6 @@ returns-clause-ends g c =
     let calls : c.deref.result.now ≡ calls_of args.search = c.deref.ensures.value ∙ c.in_ok-calls.ensures.listed in
     let same : c.deref-2.result.now ≡ numbers = c.deref-2.ensures.value in
     let path : spelling (schedule_of args.search c.deref-3.result.now) ≡ spelled_walk args.search numbers =
-    ap (λ ms. spelling (schedule_of args.search ms)) (c.deref-3.ensures.value ∙ c.in_ok-path.ensures ∙ (λ i. map (move_by (alphabet (calls i) args.search.procs)) (same i))) in
+    ap (λ ms. spelling (schedule_of args.search ms)) (c.deref-3.ensures.value ∙ c.in_ok-path.ensures ∙ (λ i. map (move_by (moves_to_try (calls i) args.search.procs (c.counts_of.ensures i))) (same i))) in
     tool_ends (states_run args) Walk (g.R.Source.reading c.args.r.now) (g.R.Source.reading c.walk_of_input.new.r) (g.W.Sink.tape c.args.w.now) (g.W.Sink.tape c.tell_path.new.w) c.tell_path.result c.requires.tool
     (walk_written (state_lines args) (spelled_walk args.search) numbers (spelling (schedule_of args.search c.deref-3.result.now)) (g.R.Source.reading c.args.r.now) (g.R.Source.reading c.walk_of_input.new.r) (g.W.Sink.tape c.args.w.now) (g.W.Sink.tape c.tell_path.new.w) c.tell_path.result found path c.tell_path.ensures.prints)

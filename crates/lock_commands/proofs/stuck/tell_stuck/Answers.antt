@@ -9,7 +9,7 @@ use Rattle.crashlab.specs.space.SearchStateWords.{search_state_words}
 use Rattle.crashlab.specs.space.Spaces.{first_search_state, rules}
 use Rattle.lock_explorer.specs.FoundPaths.{IsFoundIn, IsShortestPath, NoneIsFound}
 use Rattle.cli.specs.declared.arguments.args.ExploreArgs.{ExploreArgs}
-use Rattle.lock_commands.specs.Explores.{StuckEnds, calls_of, layout_of, schedule_of}
+use Rattle.lock_commands.specs.Explores.{StuckEnds, calls_of, crash_counts, layout_of, schedule_of}
 use Rattle.command_parts.specs.declared.ending.Ending.{Ending}
 use Rattle.command_parts.specs.declared.fault.CommandFault.{CommandFault}
 use Rattle.command_parts.specs.Endings.{Prints}
@@ -20,13 +20,13 @@ module _ (args : ExploreArgs) (before now : Tape) (path moves_path : List Move) 
   path_prints = subst (λ p. Prints 1 (spelling (schedule_of args p)) before now r) same prints
 
   ends_wrong :
-      args.variant ≢ Right → IsFoundIn args.variant (layout_of args) args.limit args.crashes (calls_of args) path → IsShortestPath args.variant (layout_of args) args.limit args.crashes (calls_of args) path
+      args.variant ≢ Right → IsFoundIn args.variant (layout_of args) args.limit (crash_counts args) (calls_of args) path → IsShortestPath args.variant (layout_of args) args.limit (crash_counts args) (calls_of args) path
       → StuckEnds args before now r
   ends_wrong wrong found least = inl (record { wrong = wrong; path = path; found = found; least = least; prints = path_prints })
 
   ends_stuck :
-      NoneIsFound args.variant (layout_of args) args.limit args.crashes (calls_of args) → LeadsToStuck (rules search_state_words) (first_search_state args.variant (layout_of args) args.limit args.crashes (calls_of args)) path
-      → IsShortestToStuck (rules search_state_words) (first_search_state args.variant (layout_of args) args.limit args.crashes (calls_of args)) path → StuckEnds args before now r
+      NoneIsFound args.variant (layout_of args) args.limit (crash_counts args) (calls_of args) → LeadsToStuck (rules search_state_words) (first_search_state args.variant (layout_of args) args.limit (crash_counts args) (calls_of args)) path
+      → IsShortestToStuck (rules search_state_words) (first_search_state args.variant (layout_of args) args.limit (crash_counts args) (calls_of args)) path → StuckEnds args before now r
   ends_stuck none stuck least = inr (inl (record { none = none; path = path; stuck = stuck; least = least; prints = path_prints }))
 
 pub returns-in-Ok-Fault-clause-ends : goal.returns-in-Ok-Fault-clause-ends
@@ -37,8 +37,8 @@ returns-in-Ok-Fault-clause-ends g c =
     let least = rw c.in-Ok-Fault.field-0-is at (rw c.in-Ok-Fault.is at c.stuck_schedule-found.ensures.shortest) in
     ends_wrong o _ _ c.in-Ok-Fault.path.items _ c.tell_path.result c.deref-in-Ok-Fault.ensures.value c.tell_path.ensures.prints
     (λ right. rw c.in-Ok-Fault.field-0-is at (rw c.in-Ok-Fault.is at (c.stuck_schedule-found.ensures.right right)))
-    (subst (λ calls. IsFoundIn o.variant (layout_of o) o.limit o.crashes calls c.in-Ok-Fault.path.items) calls found)
-    (subst (λ calls. IsShortestPath o.variant (layout_of o) o.limit o.crashes calls c.in-Ok-Fault.path.items) calls least)
+    (subst (λ calls. IsFoundIn o.variant (layout_of o) o.limit (crash_counts o) calls c.in-Ok-Fault.path.items) calls (subst (λ counts. IsFoundIn o.variant (layout_of o) o.limit counts c.deref.result.now c.in-Ok-Fault.path.items) c.counts_of.ensures found))
+    (subst (λ calls. IsShortestPath o.variant (layout_of o) o.limit (crash_counts o) calls c.in-Ok-Fault.path.items) calls (subst (λ counts. IsShortestPath o.variant (layout_of o) o.limit counts c.deref.result.now c.in-Ok-Fault.path.items) c.counts_of.ensures least))
 
 pub returns-in-Ok-Stuck-clause-ends : goal.returns-in-Ok-Stuck-clause-ends
 returns-in-Ok-Stuck-clause-ends g c =
@@ -48,9 +48,9 @@ returns-in-Ok-Stuck-clause-ends g c =
     let stuck = rw c.in-Ok-Stuck.field-0-is at (rw c.in-Ok-Stuck.is at c.stuck_schedule-found.ensures.stuck) in
     let least = rw c.in-Ok-Stuck.field-0-is at (rw c.in-Ok-Stuck.is at c.stuck_schedule-found.ensures.shortest_stuck) in
     ends_stuck o _ _ c.in-Ok-Stuck.path.items _ c.tell_path-in-Ok-Stuck.result c.deref-in-Ok-Stuck.ensures.value c.tell_path-in-Ok-Stuck.ensures.prints
-    (subst (λ calls. NoneIsFound o.variant (layout_of o) o.limit o.crashes calls) calls none)
-    (subst (λ calls. LeadsToStuck (rules search_state_words) (first_search_state o.variant (layout_of o) o.limit o.crashes calls) c.in-Ok-Stuck.path.items) calls stuck)
-    (subst (λ calls. IsShortestToStuck (rules search_state_words) (first_search_state o.variant (layout_of o) o.limit o.crashes calls) c.in-Ok-Stuck.path.items) calls least)
+    (subst (λ calls. NoneIsFound o.variant (layout_of o) o.limit (crash_counts o) calls) calls (subst (λ counts. NoneIsFound o.variant (layout_of o) o.limit counts c.deref.result.now) c.counts_of.ensures none))
+    (subst (λ calls. LeadsToStuck (rules search_state_words) (first_search_state o.variant (layout_of o) o.limit (crash_counts o) calls) c.in-Ok-Stuck.path.items) calls (subst (λ counts. LeadsToStuck (rules search_state_words) (first_search_state o.variant (layout_of o) o.limit counts c.deref.result.now) c.in-Ok-Stuck.path.items) c.counts_of.ensures stuck))
+    (subst (λ calls. IsShortestToStuck (rules search_state_words) (first_search_state o.variant (layout_of o) o.limit (crash_counts o) calls) c.in-Ok-Stuck.path.items) calls (subst (λ counts. IsShortestToStuck (rules search_state_words) (first_search_state o.variant (layout_of o) o.limit counts c.deref.result.now) c.in-Ok-Stuck.path.items) c.counts_of.ensures least))
 
 pub returns-in-Ok-NeverStuck-clause-ends : goal.returns-in-Ok-NeverStuck-clause-ends
 returns-in-Ok-NeverStuck-clause-ends g c =
@@ -60,9 +60,9 @@ returns-in-Ok-NeverStuck-clause-ends g c =
     let never = rw c.in-Ok-NeverStuck.field-0-is at (rw c.in-Ok-NeverStuck.is at c.stuck_schedule-found.ensures.never) in
     let number = rw c.in-Ok-NeverStuck.field-0-is at (rw c.in-Ok-NeverStuck.is at c.stuck_schedule-found.ensures.states) in
     inr (inr (inl (record {
-      none = subst (λ calls. NoneIsFound o.variant (layout_of o) o.limit o.crashes calls) calls none;
-      never = subst (λ calls. IsNeverStuck (rules search_state_words) (first_search_state o.variant (layout_of o) o.limit o.crashes calls)) calls never;
+      none = subst (λ calls. NoneIsFound o.variant (layout_of o) o.limit (crash_counts o) calls) calls (subst (λ counts. NoneIsFound o.variant (layout_of o) o.limit counts c.deref.result.now) c.counts_of.ensures none);
+      never = subst (λ calls. IsNeverStuck (rules search_state_words) (first_search_state o.variant (layout_of o) o.limit (crash_counts o) calls)) calls (subst (λ counts. IsNeverStuck (rules search_state_words) (first_search_state o.variant (layout_of o) o.limit counts c.deref.result.now)) c.counts_of.ensures never);
       states = c.in-Ok-NeverStuck.states;
-      number = subst (λ calls. IsNumberOfStates (rules search_state_words) (first_search_state o.variant (layout_of o) o.limit o.crashes calls) c.in-Ok-NeverStuck.states) calls number;
+      number = subst (λ calls. IsNumberOfStates (rules search_state_words) (first_search_state o.variant (layout_of o) o.limit (crash_counts o) calls) c.in-Ok-NeverStuck.states) calls (subst (λ counts. IsNumberOfStates (rules search_state_words) (first_search_state o.variant (layout_of o) o.limit counts c.deref.result.now) c.in-Ok-NeverStuck.states) c.counts_of.ensures number);
       prints = c.tell_never.ensures.prints;
     })))

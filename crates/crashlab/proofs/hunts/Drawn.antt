@@ -1,5 +1,5 @@
 -- A round of a hunt, word by word.
-use Rattle.std.proofs.Common.{◌≡◌, ◌<◌, ℕ, zero, suc, ◌+◌, ◌-◌, ◌*◌, ◌==◌, Bool, true, false, if◌then◌else◌, List, [], ◌∷◌, ◌++◌, map, Option, Some, None, IsSome, is_err, refl, sym, ap, ◌∙◌, subst, arith}
+use Rattle.std.proofs.Common.{◌≡◌, ◌<◌, ℕ, zero, suc, ◌+◌, ◌-◌, ◌*◌, true, false, if◌then◌else◌, List, [], ◌∷◌, ◌++◌, map, Option, Some, None, IsSome, is_err, refl, sym, ap, ◌∙◌, subst, arith}
 use Rattle.std.proofs.lemmas.List.{map-append}
 use Rattle.rand_core.specs.Pcg32Seed.{pcg32_seed}
 use Rattle.rand_core.specs.Steps.{first_words}
@@ -11,11 +11,11 @@ use Rattle.judge.specs.Legal.{judged_all}
 use Rattle.crashlab.proofs.Common.{Variant, VariantState, Scheduled, StandsAfter, empty_state, EndsMove, On, with_line, line_by, first_world, deeds_of_lines, IsPlayed}
 use Rattle.crashlab.specs.declared.hunts.moves.DrawnMove.{DrawnMove}
 use Rattle.crashlab.specs.declared.hunts.observer.Observation.{Observation}
-use Rattle.crashlab.specs.hunts.Draws.{Sight, seen_after_move, move_of_word, at_process}
+use Rattle.crashlab.specs.hunts.Draws.{Sight, seen_after_move, move_of_word}
 use Rattle.crashlab.specs.hunts.Found.{IsCaught, drawn_moves_of}
 use Rattle.crashlab.specs.hunts.Hunts.{after_line, after_lines}
 use Rattle.crashlab.specs.hunts.Hunted.{seen_from, seen_after, refusal_of, unless_refused, with_word, is_refused, found_after, found_in, found_from, or_else, generator_after}
-use Rattle.crashlab.specs.hunts.Observed.{Observes, observation_of}
+use Rattle.crashlab.specs.hunts.Observed.{Observes}
 
 -- ---- the moves
 
@@ -26,15 +26,6 @@ seen_more : (s : VariantState) (seen : ℕ → List Sight) (moves : List DrawnMo
     → seen_from s seen (moves ++ made ∷ []) ≡ seen_after_move (after_lines s (map line_by moves)) made (seen_from s seen moves)
 seen_more s seen [] made = refl
 seen_more s seen (x ∷ xs) made = seen_more (after_line s (line_by x)) (seen_after_move s x seen) xs made
-
--- a change that changes nothing
-pub observes_same : (p : ℕ) (change : List Sight → List Sight) (seen : ℕ → List Sight) (observations : List Observation) → ((sights : List Sight) → change sights ≡ sights) → Observes seen observations
-    → Observes (at_process p change seen) observations
-observes_same p change seen observations same observes q h = observes q h ∙ ap (λ s. Some (observation_of s)) (by (q == p))
-  where
-    by : (b : Bool) → seen q ≡ (if b then change (seen q) else seen q)
-    by true = sym (same (seen q))
-    by false = refl
 
 refused_stays : (o : Option Refusal) (made : DrawnMove) (moves : List DrawnMove) → IsSome o → unless_refused o made moves ≡ moves
 refused_stays None made moves some = absurd (cc)

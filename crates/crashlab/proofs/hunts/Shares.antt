@@ -4,9 +4,6 @@ use Rattle.schedule.specs.Schedules.{Scheduled}
 use Rattle.crashlab.specs.declared.variants.variant.Variant.{Variant}
 use Rattle.crashlab.specs.hunts.Hunted.{found_in, found_from, or_else}
 
-else_none : {A : Type 0} (o : Option A) → or_else None o ≡ o
-else_none o = refl
-
 else_else : {A : Type 0} (a b c : Option A) → or_else (or_else a b) c ≡ or_else a (or_else b c)
 else_else None b c = refl
 else_else (Some x) b c = refl

@@ -1,13 +1,12 @@
 -- Lists with elements left out, and the moves of changed lines.
 use Rattle.std.proofs.Common.{◌≡◌, ℕ, zero, suc, ◌+◌, ◌-◌, ◌<◌, ◌≤◌, ◌==◌, Bool, true, false, if◌then◌else◌, List, [], ◌∷◌, ◌++◌, take, drop, length, get_or, Some, refl, sym, ap, ◌∙◌, subst, inl, inr, arith, add-one, append-nil, append_assoc}
 use Rattle.std.specs.List.{slice_get}
-use Rattle.std.proofs.lemmas.Bool.{eq-eqb}
 use Rattle.std.proofs.lemmas.Option.{slice_get-get_or}
 use Rattle.schedule.specs.declared.lines.line.Line.{Line}
 use Rattle.schedule.specs.declared.lines.line.Line.TheVariants.{Step, Crash}
 use Rattle.schedule.specs.Schedules.{Scheduled}
 use Rattle.crashlab.specs.minimization.Least.{with_lines_at, IsLowered}
-use Rattle.crashlab.specs.minimization.MadeOf.{IsSubsequence, is_line_of, steps_by, moves_in, moves_by, moves_of, IsMadeOf, moves_left}
+use Rattle.crashlab.specs.minimization.MadeOf.{IsSubsequence, steps_by, moves_by, moves_of, IsMadeOf, moves_left}
 
 pub sub_refl : {A : Type 0} (xs : List A) → IsSubsequence xs xs
 sub_refl [] = tt
@@ -82,20 +81,6 @@ made_self schedule p low = sub_refl (moves_of p schedule.lines)
 pub made_on : (a b c : Scheduled) → a.procs ≡ b.procs → IsMadeOf a b → IsMadeOf b c → IsMadeOf a c
 made_on a b c same first second p low =
     sub_trans (moves_of p c.lines) (moves_of p b.lines) (moves_of p a.lines) (second p (subst (λ n. p < n) same low)) (first p low)
-
--- a line of another process has no moves of this one
-pub moves_other : (p : ℕ) (line : Line) → is_line_of p line ≡ false → moves_by p line ≡ []
-moves_other p line other = ap (λ b. if b then moves_in line else []) other
-
-pub moves_same : (p : ℕ) (line : Line) → is_line_of p line ≡ true → moves_by p line ≡ moves_in line
-moves_same p line same = ap (λ b. if b then moves_in line else []) same
-
--- the steps of a line of steps
-pub steps_same : (p q n : ℕ) → q ≡ p → moves_by p (Step q n) ≡ steps_by p n
-steps_same p q n same = moves_same p (Step q n) (eq-eqb p q (sym same)) ∙ ap (λ r. steps_by r n) same
-
-pub steps_there : (p q n : ℕ) (xs ys : List Line) → q ≡ p → IsSubsequence xs (steps_by p n ++ ys) → IsSubsequence xs (moves_by p (Step q n) ++ ys)
-steps_there p q n xs ys same h = subst (λ ms. IsSubsequence xs (ms ++ ys)) (sym (steps_same p q n same)) h
 
 -- the steps that are left are taken, and there are more to take
 pub taken_all : (p steps wanted left : ℕ) (xs : List Line) (first : Line) (rest : List Line) → steps < wanted

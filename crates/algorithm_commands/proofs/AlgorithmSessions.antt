@@ -1,6 +1,7 @@
 -- A session on an algorithm whose text is at fault, or was read.
 use Rattle.std.proofs.Common.{◌≡◌, ◌⊎◌, ◌∙◌, List, [], ℕ, Option, Some, None, Result, Ok, Err, IfOk, ap, refl, inl, inr}
 use Rattle.algorithms.specs.Ranked.{LocalLinesEnd, AccessesLeadOn}
+use Rattle.algorithms.specs.declared.algorithm.Algorithm.{Algorithm}
 use Rattle.algorithms.specs.declared.first_values.InitializedAlgorithm.{InitializedAlgorithm}
 use Rattle.algorithms.specs.declared.refusal.AlgorithmRefusal.{AlgorithmRefusal}
 use Rattle.algorithm_lab.specs.Monitors.{MonitorState, first_monitor}
@@ -34,9 +35,10 @@ pub session_held : (file start : Option (List ℕ)) (before now : Devices) (end 
 session_held file start before now end a spells ends leads holds = inr (record { algorithm = a; spells = spells; ends = ends; leads = leads; holds = holds })
 
 -- there is no world of the schedule's sizes
-pub no_world : (r : Option AlgorithmRefusal) (m : MonitorState) (lines : List Line) (fault : CommandFault) → fault ≡ fault_of_run (world_fault r) → IsFaultOfRun (run_unless r m lines) fault
-no_world None m lines fault is = inl is
-no_world (Some e) m lines fault is = inr (1, Refused e, refl, is)
+pub no_world : (a : Algorithm) (r : Option AlgorithmRefusal) (m : MonitorState) (lines : List Line) (fault : CommandFault) → fault ≡ fault_of_run a (world_fault r)
+    → IsFaultOfRun a (run_unless r m lines) fault
+no_world a None m lines fault is = inl is
+no_world a (Some e) m lines fault is = inr (1, Refused e, refl, is)
 
 -- a session over a monitor that has played the schedule begins as over a new one
 pub session_begins : (a : InitializedAlgorithm) (schedule : Scheduled) (m : MonitorState) (r : Result MonitorState CommandFault) → m ≡ first_monitor a schedule.procs schedule.limit

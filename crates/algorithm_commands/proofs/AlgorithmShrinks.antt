@@ -20,7 +20,7 @@ shrunk_reported a schedule answer before now end shrinks prints = inl (record { 
 
 -- why it answers nothing
 pub not_shrunk : (a : InitializedAlgorithm) (schedule : Scheduled) (now : Tape) (fault : AlgorithmReplayFault) → IsAlgorithmReason a schedule fault
-    → ShrinksAlgorithm a schedule now now (Err (fault_of_run fault))
+    → ShrinksAlgorithm a schedule now now (Err (fault_of_run a.algorithm fault))
 not_shrunk a schedule now (Refused line refusal) reason =
     inr (inl (record { line = line; refusal = refusal; refused = reason; fault = refl; silent = record { taken = refl; fine = refl } }))
 not_shrunk a schedule now Write reason = absurd reason

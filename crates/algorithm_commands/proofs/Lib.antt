@@ -11,3 +11,4 @@ pub mod AlgorithmStarving
 pub mod AlgorithmStates
 pub mod AlgorithmStuck
 pub mod AlgorithmTexts
+pub mod RunFaults

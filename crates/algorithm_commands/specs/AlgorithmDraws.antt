@@ -28,7 +28,7 @@ WritesDrawing false svg algorithm schedule before now answer =
 -- the same as a command answers it
 abbrev pub DrawsAlgorithm : AlgorithmDrawArgs → InitializedAlgorithm → Scheduled → Tape → Tape → Result Ending CommandFault → Type 0
 DrawsAlgorithm args algorithm schedule before now end =
-    (answer : Result Verdict AlgorithmReplayFault) × WritesDrawing args.html args.svg algorithm schedule before now answer × (outcome end ≡ outcome_of_run answer)
+    (answer : Result Verdict AlgorithmReplayFault) × WritesDrawing args.html args.svg algorithm schedule before now answer × (outcome end ≡ outcome_of_run algorithm.algorithm answer)
 
 -- how `draw --algorithm` ends
 abbrev pub AlgorithmDrawEnds : AlgorithmDrawArgs → Option (List ℕ) → Reading → Reading → Tape → Tape → Result Ending CommandFault → Type 0

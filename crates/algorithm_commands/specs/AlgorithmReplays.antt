@@ -1,11 +1,14 @@
 -- How a replay on an algorithm's text ends.
-use Rattle.std.specs.Prelude.{◌≡◌, ℕ, Bool, true, false, List, [], Option, Some, None, Result, Ok, Err}
+use Rattle.std.specs.Prelude.{◌≡◌, ℕ, Bool, true, false, List, [], map, Option, Some, None, Result, Ok, Err}
+use Rattle.algorithms.specs.declared.algorithm.Algorithm.{Algorithm}
+use Rattle.algorithms.specs.declared.line.AlgorithmLine.{AlgorithmLine}
 use Rattle.algorithms.specs.declared.first_values.InitializedAlgorithm.{InitializedAlgorithm}
 use Rattle.algorithm_lab.specs.Refusals.{number_of}
 use Rattle.algorithm_lab.specs.Monitors.{MonitorState}
 use Rattle.algorithm_lab.specs.Replays.{WritesRunText, run_of, text_of}
 use Rattle.algorithm_lab.specs.Runs.{run_on}
 use Rattle.algorithm_lab.specs.declared.run_refusal.RunRefusal.{RunRefusal}
+use Rattle.algorithm_states.specs.RangeSpaces.{line_of}
 use Rattle.cli.specs.declared.arguments.args.AlgorithmReplayArgs.{AlgorithmReplayArgs}
 use Rattle.diagram.specs.AlgorithmSteps.{objects_by_steps, report_by_steps, text_on_new}
 use Rattle.schedule.specs.declared.lines.line.Line.{Line}
@@ -21,21 +24,30 @@ use Rattle.command_parts.specs.Statuses.{outcome, status_after}
 use Rattle.command_parts.specs.declared.ending.Ending.{Ending}
 use Rattle.command_parts.specs.declared.fault.CommandFault.{CommandFault}
 
--- the fault for a line that is refused, by the number of the refusal
-abbrev pub refused_at : ℕ → Option ℕ → CommandFault
-refused_at line None = faults.OutOfMemory
-refused_at line (Some number) = faults.Refused line number
+-- the fault for a line that is refused: by the line of the text at which a value would leave its range, else by the refusal's number
+abbrev pub refused_by : ℕ → Option ℕ → Option ℕ → CommandFault
+refused_by line (Some algorithm_line) number = faults.OutOfRange line algorithm_line
+refused_by line None (Some number) = faults.Refused line number
+refused_by line None None = faults.OutOfMemory
+
+-- the same of an algorithm
+abbrev pub refused_at : Algorithm → ℕ → RunRefusal → CommandFault
+refused_at a line refusal = refused_by line (line_of a refusal) (number_of refusal)
 
 -- the program's fault for a fault of a replay on an algorithm
-abbrev pub fault_of_run : AlgorithmReplayFault → CommandFault
-fault_of_run (of_run.Refused line refusal) = refused_at line (number_of refusal)
-fault_of_run of_run.Write = faults.Write
-fault_of_run of_run.OutOfMemory = faults.OutOfMemory
+abbrev pub fault_of_run : Algorithm → AlgorithmReplayFault → CommandFault
+fault_of_run a (of_run.Refused line refusal) = refused_at a line refusal
+fault_of_run a of_run.Write = faults.Write
+fault_of_run a of_run.OutOfMemory = faults.OutOfMemory
 
 -- the exit status, or the fault, of a replay on an algorithm
-abbrev pub outcome_of_run : Result Verdict AlgorithmReplayFault → Result ℕ CommandFault
-outcome_of_run (Ok verdict) = Ok (status_after verdict)
-outcome_of_run (Err fault) = Err (fault_of_run fault)
+abbrev pub outcome_of_run : Algorithm → Result Verdict AlgorithmReplayFault → Result ℕ CommandFault
+outcome_of_run a (Ok verdict) = Ok (status_after verdict)
+outcome_of_run a (Err fault) = Err (fault_of_run a fault)
+
+-- the number of each line of the algorithm in its text
+abbrev pub line_numbers : Algorithm → List ℕ
+line_numbers a = map (λ (line : AlgorithmLine). line.number) a.lines.items
 
 -- the report of a run as one JSON object. Where a line is refused there is none
 abbrev pub object_unless : Option (ℕ × RunRefusal) → List ℕ → List ℕ
@@ -64,7 +76,7 @@ abbrev pub TellsAlgorithm : AlgorithmReplayArgs → InitializedAlgorithm → Sch
 TellsAlgorithm args algorithm schedule before now end =
     (answer : Result Verdict AlgorithmReplayFault)
     × WritesRunText before now (text_of_replay args.each args.json algorithm schedule) (run_of algorithm schedule.procs schedule.limit schedule.lines) answer
-    × (outcome end ≡ outcome_of_run answer)
+    × (outcome end ≡ outcome_of_run algorithm.algorithm answer)
 
 -- the run is written, or the fault of what was to be read is answered
 abbrev pub AlgorithmReplayEnds : AlgorithmReplayArgs → Option (List ℕ) → Reading → Reading → Tape → Tape → Result Ending CommandFault → Type 0

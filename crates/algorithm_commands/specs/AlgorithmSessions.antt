@@ -1,8 +1,8 @@
 -- How a session on an algorithm ends.
 use Rattle.std.specs.Prelude.{◌≡◌, ◌⊎◌, ℕ, List, Option, Some, None, Result}
+use Rattle.algorithms.specs.declared.algorithm.Algorithm.{Algorithm}
 use Rattle.algorithms.specs.declared.first_values.InitializedAlgorithm.{InitializedAlgorithm}
 use Rattle.algorithm_lab.specs.Monitors.{MonitorState}
-use Rattle.algorithm_lab.specs.Refusals.{number_of}
 use Rattle.algorithm_lab.specs.Replays.{run_of}
 use Rattle.algorithm_lab.specs.Runs.{AlgorithmRun}
 use Rattle.algorithm_lab.specs.declared.run_refusal.RunRefusal.{RunRefusal}
@@ -17,13 +17,12 @@ use Rattle.command_parts.specs.declared.fault.CommandFault.{CommandFault}
 use Rattle.command_parts.specs.Endings.{RefusesCommand}
 
 -- a line of a run is refused
-abbrev pub IsRefusedRun : AlgorithmRun (ℕ × RunRefusal) → CommandFault → Type 0
-IsRefusedRun run fault =
-    (line : ℕ) × (refusal : RunRefusal) × (run.refused ≡ Some (line, refusal)) × (fault ≡ refused_at line (number_of refusal))
+abbrev pub IsRefusedRun : Algorithm → AlgorithmRun (ℕ × RunRefusal) → CommandFault → Type 0
+IsRefusedRun a run fault = (line : ℕ) × (refusal : RunRefusal) × (run.refused ≡ Some (line, refusal)) × (fault ≡ refused_at a line refusal)
 
 -- or there is no memory
-abbrev pub IsFaultOfRun : AlgorithmRun (ℕ × RunRefusal) → CommandFault → Type 0
-IsFaultOfRun run fault = (fault ≡ faults.OutOfMemory) ⊎ IsRefusedRun run fault
+abbrev pub IsFaultOfRun : Algorithm → AlgorithmRun (ℕ × RunRefusal) → CommandFault → Type 0
+IsFaultOfRun a run fault = (fault ≡ faults.OutOfMemory) ⊎ IsRefusedRun a run fault
 
 -- a session plays the schedule that it begins with
 abbrev pub algorithm_machine : InitializedAlgorithm → SessionMachine MonitorState
@@ -32,7 +31,7 @@ algorithm_machine a =
       semantics = algorithm_semantics;
       session = algorithm_session a;
       accepts = λ schedule. (run_of a schedule.procs schedule.limit schedule.lines).refused ≡ None;
-      refuses = λ schedule fault. IsRefusedRun (run_of a schedule.procs schedule.limit schedule.lines) fault;
+      refuses = λ schedule fault. IsRefusedRun a.algorithm (run_of a schedule.procs schedule.limit schedule.lines) fault;
     }
 
 -- how a session on this algorithm ends, which begins with the schedule of a text, or with a header

@@ -2,7 +2,6 @@
 use Rattle.std.specs.Prelude.{◌≡◌, ◌⊎◌, ℕ, List, Option, Some, Result, Err}
 use Rattle.algorithms.specs.declared.first_values.InitializedAlgorithm.{InitializedAlgorithm}
 use Rattle.algorithm_hunts.specs.Shrunk.{MinimizesAlgorithm, schedule_run}
-use Rattle.algorithm_lab.specs.Refusals.{number_of}
 use Rattle.algorithm_lab.specs.declared.run_refusal.RunRefusal.{RunRefusal}
 use Rattle.schedule.specs.Schedules.{Scheduled}
 use Rattle.schedule.specs.Tapes.{Tape, Reading}
@@ -25,7 +24,7 @@ pub record TellsRefusedOfAlgorithm (algorithm : InitializedAlgorithm) (schedule 
   pub line : ℕ
   pub refusal : RunRefusal
   pub refused : (schedule_run algorithm schedule).refused ≡ Some (line, refusal)
-  pub fault : end ≡ Err (refused_at line (number_of refusal))
+  pub fault : end ≡ Err (refused_at algorithm.algorithm line refusal)
   pub silent : Silent before now
 
 -- the schedule is shrunk, a line of it is refused, or memory has run out before either is known

@@ -1,10 +1,12 @@
 //! The command `draw` on an algorithm's text.
 
-ghost use Rattle.std.specs.Prelude.{IfOk, option_copied, false};
+ghost use Rattle.std.specs.Prelude.{◌≡◌, IfOk, option_copied, false};
 ghost use Rattle.algorithm_commands.specs.AlgorithmDraws.{AlgorithmDrawEnds, DrawsAlgorithm, WritesDrawing};
+ghost use Rattle.algorithm_commands.specs.AlgorithmReplays.{line_numbers as numbers_of};
 ghost use Rattle.command_parts.specs.Endings.{IsEnded};
 
-use crate::algorithm_replay_command::{algorithm_read, replay_fault};
+use crate::algorithm_replay_command::algorithm_read;
+use crate::run_fault::{line_numbers, replay_fault};
 use algorithm_lab::AlgorithmReplayFault;
 use algorithms::InitializedAlgorithm;
 use cli::arguments::args::AlgorithmDrawArgs;
@@ -33,14 +35,16 @@ fn write_run<W: Sink>(
     draw_algorithm(alloc, algorithm, schedule, style_of(svg), w)
 }
 
-/// Plays the schedule on the algorithm, and writes what is asked for.
+/// Plays the schedule on the algorithm, whose lines have these numbers, and writes what is asked for.
 fn draw_on_algorithm<W: Sink>(
     alloc: Global,
     algorithm: InitializedAlgorithm,
     schedule: &Schedule,
+    numbers: &[u64],
     args: &AlgorithmDrawArgs,
     w: &mut W,
 ) -> Result<Ending, CommandFault>
+    requires { numbers.now ≡ numbers_of algorithm.algorithm }
     ensures reports { DrawsAlgorithm args.now algorithm schedule.now (W.tape w.old) (W.tape w.new) result }
     ensures ended { IfOk result (IsEnded false (W.tape w.old).failures (W.tape w.new).failures) }
 {
@@ -49,7 +53,7 @@ fn draw_on_algorithm<W: Sink>(
             status: status_after_verdict(verdict),
             save: None,
         }),
-        Err(fault) => Err(replay_fault(fault)),
+        Err(fault) => Err(replay_fault(numbers, fault)),
     }
 }
 
@@ -68,6 +72,7 @@ pub fn algorithm_draw_command<R: Source, W: Sink>(
     ensures ended { IfOk result (IsEnded false (W.tape w.old).failures (W.tape w.new).failures) }
 {
     let algorithm = algorithm_read(alloc, text)?;
+    let numbers = line_numbers(alloc, &algorithm.algorithm)?;
     let schedule = schedule_read(alloc, r)?;
-    draw_on_algorithm(alloc, algorithm, &schedule, args, w)
+    draw_on_algorithm(alloc, algorithm, &schedule, &numbers, args, w)
 }

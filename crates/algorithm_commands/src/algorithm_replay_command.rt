@@ -4,11 +4,12 @@ ghost use Rattle.std.specs.Prelude.{◌≡◌, IfErr, IfOk, option_copied, false
 ghost use Rattle.algorithms.specs.Ranked.{LocalLinesEnd, AccessesLeadOn};
 ghost use Rattle.algorithm_texts.specs.Programs.{SpellsAlgorithm};
 ghost use Rattle.algorithm_lab.specs.Replays.{run_of, WritesRunText};
-ghost use Rattle.algorithm_commands.specs.AlgorithmReplays.{AlgorithmReplayEnds, fault_of_run, object_at_end, object_of_run, TellsAlgorithm, text_of_replay};
+ghost use Rattle.algorithm_commands.specs.AlgorithmReplays.{AlgorithmReplayEnds, line_numbers as numbers_of, object_at_end, object_of_run, TellsAlgorithm, text_of_replay};
 ghost use Rattle.algorithm_commands.specs.AlgorithmTexts.{IsAlgorithmFault, TellsFault, text_of as text_in};
 ghost use Rattle.command_parts.specs.Endings.{IsEnded};
 ghost use Rattle.diagram.specs.AlgorithmSteps.{IsRunText, text_on_new};
 
+use crate::run_fault::{line_numbers, replay_fault};
 use algorithm_lab::{AlgorithmReplayFault, Monitor, ReplayText, replay_algorithm, report_of_run};
 use algorithm_texts::read_algorithm;
 use algorithms::{AlgorithmFault, InitializedAlgorithm};
@@ -33,20 +34,6 @@ fn text_fault(fault: AlgorithmFault) -> CommandFault
             fault: fault_numbered(number),
         },
         AlgorithmFault::OutOfMemory => CommandFault::OutOfMemory,
-    }
-}
-
-/// The command's fault for a fault of a replay on an algorithm.
-pub(crate) fn replay_fault(fault: AlgorithmReplayFault) -> CommandFault
-    ensures { result ≡ fault_of_run fault }
-{
-    match fault {
-        AlgorithmReplayFault::Refused { line, refusal } => match refusal.number() {
-            Some(number) => CommandFault::Refused { line, number },
-            None => CommandFault::OutOfMemory,
-        },
-        AlgorithmReplayFault::Write => CommandFault::Write,
-        AlgorithmReplayFault::OutOfMemory => CommandFault::OutOfMemory,
     }
 }
 
@@ -136,14 +123,16 @@ fn report<W: Sink>(
     }
 }
 
-/// Plays the schedule on the algorithm, and writes what is asked for.
+/// Plays the schedule on the algorithm, whose lines have these numbers, and writes what is asked for.
 fn replay_on_algorithm<W: Sink>(
     alloc: Global,
     algorithm: InitializedAlgorithm,
     schedule: &Schedule,
+    numbers: &[u64],
     args: &AlgorithmReplayArgs,
     w: &mut W,
 ) -> Result<Ending, CommandFault>
+    requires { numbers.now ≡ numbers_of algorithm.algorithm }
     ensures reports { TellsAlgorithm args.now algorithm schedule.now (W.tape w.old) (W.tape w.new) result }
     ensures ended { IfOk result (IsEnded false (W.tape w.old).failures (W.tape w.new).failures) }
 {
@@ -152,7 +141,7 @@ fn replay_on_algorithm<W: Sink>(
             status: status_after_verdict(verdict),
             save: None,
         }),
-        Err(fault) => Err(replay_fault(fault)),
+        Err(fault) => Err(replay_fault(numbers, fault)),
     }
 }
 
@@ -171,6 +160,7 @@ pub fn algorithm_replay_command<R: Source, W: Sink>(
     ensures ended { IfOk result (IsEnded false (W.tape w.old).failures (W.tape w.new).failures) }
 {
     let algorithm = algorithm_read(alloc, text)?;
+    let numbers = line_numbers(alloc, &algorithm.algorithm)?;
     let schedule = schedule_read(alloc, r)?;
-    replay_on_algorithm(alloc, algorithm, &schedule, args, w)
+    replay_on_algorithm(alloc, algorithm, &schedule, &numbers, args, w)
 }

@@ -2,10 +2,11 @@
 
 ghost use Rattle.std.specs.Prelude.{◌≡◌, ◌⊎◌, [], None, IfErr, IfOk, OnOk, option_copied, false};
 ghost use Rattle.algorithms.specs.Worlds.{new_refusal};
+ghost use Rattle.algorithms.specs.declared.algorithm.Algorithm.{Algorithm as AlgorithmOf};
 ghost use Rattle.algorithm_lab.specs.Monitors.{first_monitor};
 ghost use Rattle.algorithm_lab.specs.Replays.{run_of, world_fault};
 ghost use Rattle.algorithm_lab.specs.Runs.{run_on};
-ghost use Rattle.algorithm_commands.specs.AlgorithmReplays.{fault_of_run};
+ghost use Rattle.algorithm_commands.specs.AlgorithmReplays.{fault_of_run, line_numbers as numbers_of};
 ghost use Rattle.algorithm_commands.specs.AlgorithmSessions.{AlgorithmSessionEnds, IsFaultOfRun, RefusesText};
 ghost use Rattle.algorithm_commands.specs.AlgorithmTexts.{HoldsOfAlgorithm};
 ghost use Rattle.command_parts.specs.Conversations.{HasNoSchedule, OpensSession};
@@ -14,7 +15,8 @@ ghost use Rattle.command_parts.specs.Endings.{FailsToRead, IsEnded};
 ghost use Rattle.diagram.specs.AlgorithmSimulations.{algorithm_semantics, algorithm_session};
 ghost use Rattle.diagram.specs.Sessions.{at_schedule};
 
-use crate::algorithm_replay_command::{algorithm_read, replay_fault};
+use crate::algorithm_replay_command::algorithm_read;
+use crate::run_fault::{line_numbers, replay_fault};
 use algorithm_lab::{AlgorithmReplayFault, Monitor, play_lines};
 use algorithms::InitializedAlgorithm;
 use command_parts::conversation::{first_text, hold};
@@ -42,65 +44,76 @@ fn first_schedule<R: Source>(
     schedule_of(alloc, &text)
 }
 
-/// A new world of the algorithm, of the sizes of a schedule.
+/// A new world of the algorithm, whose lines have these numbers, of the sizes of a schedule.
 fn world_of(
     alloc: Global,
     algorithm: InitializedAlgorithm,
     schedule: &Schedule,
+    numbers: &[u64],
 ) -> Result<Monitor, CommandFault>
     ensures made { IfOk result (λ m. m ≡ first_monitor algorithm schedule.now.procs schedule.now.limit) }
     ensures accepted { OnOk result (new_refusal algorithm schedule.now.procs schedule.now.limit ≡ None) }
-    ensures unmade { IfErr result (λ fault. fault
-        ≡ fault_of_run (world_fault (new_refusal algorithm schedule.now.procs schedule.now.limit))) }
+    ensures unmade { IfErr result (λ fault. numbers.now ≡ numbers_of algorithm.algorithm → fault
+        ≡ fault_of_run algorithm.algorithm (world_fault (new_refusal algorithm schedule.now.procs schedule.now.limit))) }
 {
     match Monitor::of_schedule(alloc, algorithm, schedule) {
         Ok(monitor) => Ok(monitor),
-        Err(fault) => Err(replay_fault(fault)),
+        Err(fault) => Err(replay_fault(numbers, fault)),
     }
 }
 
-/// The world of a monitor after the lines of a schedule, none of which may be refused.
+/// The world of a monitor after the lines of a schedule, none of which may be refused. The algorithm's lines have these numbers.
 fn play_all(
     alloc: Global,
     mut monitor: Monitor,
     schedule: &Schedule,
+    numbers: &[u64],
 ) -> Result<Monitor, CommandFault>
     ensures left { IfOk result (λ left. left ≡ (run_on 2 monitor schedule.now.lines).left) }
     ensures accepted { OnOk result ((run_on 2 monitor schedule.now.lines).refused ≡ None) }
-    ensures refused { IfErr result (IsFaultOfRun (run_on 2 monitor schedule.now.lines)) }
+    ensures refused { (a : AlgorithmOf) → numbers.now ≡ numbers_of a
+        → IfErr result (IsFaultOfRun a (run_on 2 monitor schedule.now.lines)) }
 {
     let mut reports = Vec::new(alloc);
     match play_lines(&mut monitor, schedule.lines(), &mut reports)? {
         None => Ok(monitor),
-        Some((line, refusal)) => Err(replay_fault(AlgorithmReplayFault::Refused { line, refusal })),
+        Some((line, refusal)) => Err(replay_fault(
+            numbers,
+            AlgorithmReplayFault::Refused { line, refusal },
+        )),
     }
 }
 
-/// A world of the algorithm for a session that begins with this schedule. None of its lines is refused.
+/// A world of the algorithm for a session that begins with this schedule. None of its lines is refused. The algorithm's lines have these
+/// numbers.
 fn monitor_of(
     alloc: Global,
     algorithm: InitializedAlgorithm,
     schedule: &Schedule,
+    numbers: &[u64],
 ) -> Result<Monitor, CommandFault>
+    requires { numbers.now ≡ numbers_of algorithm.algorithm }
     ensures made { IfOk result (λ m. at_schedule algorithm_semantics m schedule.now [] ≡ algorithm_session algorithm schedule.now) }
     ensures accepted { OnOk result
         ((run_of algorithm schedule.now.procs schedule.now.limit schedule.now.lines).refused ≡ None) }
     ensures unmade { IfErr result
-        (IsFaultOfRun (run_of algorithm schedule.now.procs schedule.now.limit schedule.now.lines)) }
+        (IsFaultOfRun algorithm.algorithm (run_of algorithm schedule.now.procs schedule.now.limit schedule.now.lines)) }
 {
-    let monitor = world_of(alloc, algorithm, schedule)?;
-    play_all(alloc, monitor, schedule)
+    let monitor = world_of(alloc, algorithm, schedule, numbers)?;
+    play_all(alloc, monitor, schedule, numbers)
 }
 
-/// Begins a session on the algorithm, and answers each line of the input.
+/// Begins a session on the algorithm, whose lines have these numbers, and answers each line of the input.
 fn hold_session<F: Folder, R: Source, W: Sink>(
     alloc: Global,
     algorithm: InitializedAlgorithm,
+    numbers: &[u64],
     start: Option<&[u8]>,
     folder: &mut F,
     r: &mut R,
     w: &mut W,
 ) -> Result<Ending, CommandFault>
+    requires { numbers.now ≡ numbers_of algorithm.algorithm }
     ensures ends { AlgorithmSessionEnds algorithm (option_copied start.entry)
         (devices (R.reading r.old) (F.used folder.old) (W.tape w.old))
         (devices (R.reading r.new) (F.used folder.new) (W.tape w.new)) result }
@@ -109,7 +122,7 @@ fn hold_session<F: Folder, R: Source, W: Sink>(
 {
     let mut buffer = Vec::new(alloc);
     let schedule = first_schedule(alloc, start, r, &mut buffer)?;
-    let monitor = monitor_of(alloc, algorithm, &schedule)?;
+    let monitor = monitor_of(alloc, algorithm, &schedule, numbers)?;
     let mut session = Session::with_simulation(alloc, monitor, schedule)?;
     hold(alloc, &mut session, folder, r, &mut buffer, w)
 }
@@ -133,5 +146,6 @@ pub fn algorithm_session_command<F: Folder, R: Source, W: Sink>(
     ensures opened { (F.used folder.new).opened ≡ (F.used folder.old).opened }
 {
     let algorithm = algorithm_read(alloc, text)?;
-    hold_session(alloc, algorithm, start, folder, r, w)
+    let numbers = line_numbers(alloc, &algorithm.algorithm)?;
+    hold_session(alloc, algorithm, &numbers, start, folder, r, w)
 }

@@ -18,3 +18,4 @@ pub mod algorithm_states_command;
 mod algorithm_stuck;
 mod line;
 mod machine_text;
+mod run_fault;

@@ -1,7 +1,7 @@
 -- The one line of a fault.
 use Rattle.std.specs.Prelude.{◌≡◌, ℕ, ◌+◌, ◌-◌, ◌^◌, ◌⊎◌, min, List, [], ◌∷◌, ◌++◌, codes}
 use Rattle.std.specs.Fmt.{decimal}
-use Rattle.command_parts.specs.declared.fault.CommandFault.TheVariants.{Text, Refused, Image, Algorithm, BadVariant, BadSize, Read, Write, OutOfMemory, Member, TooManyStates, States}
+use Rattle.command_parts.specs.declared.fault.CommandFault.TheVariants.{Text, Refused, OutOfRange, Image, Algorithm, BadVariant, BadSize, Read, Write, OutOfMemory, Member, TooManyStates, States}
 use Rattle.command_parts.specs.AlgorithmFaults.{number_of_text_fault, sentence_of}
 use Rattle.command_parts.specs.StatesFaults.{number_of_states_fault, sentence_of_states_fault}
 use Rattle.schedule.specs.Words.{line_of}
@@ -16,6 +16,9 @@ words_of_place line cause number = codes "line" ∷ (decimal line ++ codes ":") 
 abbrev pub words_of_fault : CommandFault → List (List ℕ)
 words_of_fault (Text line number) = words_of_place line (codes "fault") number
 words_of_fault (Refused line number) = words_of_place line (codes "refused") number
+words_of_fault (OutOfRange line algorithm_line) =
+    codes "line" ∷ (decimal line ++ codes ":") ∷ codes "refused" ∷ codes "16:" ∷ codes "out" ∷ codes "of" ∷ codes "range" ∷ codes "at"
+    ∷ codes "algorithm" ∷ codes "line" ∷ decimal algorithm_line ∷ []
 words_of_fault (Image rule) = codes "image:" ∷ codes "rule" ∷ decimal rule ∷ []
 words_of_fault (Algorithm line fault) =
     codes "algorithm" ∷ codes "line" ∷ (decimal line ++ codes ":") ∷ codes "fault" ∷ (decimal (number_of_text_fault fault) ++ codes ":")

@@ -19,6 +19,9 @@ pub enum CommandFault {
     /// The world refuses this line. The number is that of the refusal.
     #[error("line {line}: refused {number}")]
     Refused { line: u64, number: u64 },
+    /// The world of an algorithm refuses this line, since a value would leave its range at this line of the algorithm's text.
+    #[error("line {line}: refused 16: out of range at algorithm line {algorithm_line}")]
+    OutOfRange { line: u64, algorithm_line: u64 },
     /// The image breaks this rule.
     #[error("image: rule {rule}")]
     Image { rule: u64 },
@@ -64,6 +67,7 @@ impl CommandFault {
         match self {
             CommandFault::Text { .. }
             | CommandFault::Refused { .. }
+            | CommandFault::OutOfRange { .. }
             | CommandFault::Image { .. }
             | CommandFault::Algorithm { .. }
             | CommandFault::States { .. }

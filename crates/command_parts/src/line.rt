@@ -2,10 +2,9 @@
 
 ghost use Rattle.std.specs.Prelude.{◌≡◌, ◌+◌, ◌<◌, ◌≤◌, ◌/◌, ◌++◌, ◌∷◌, [], codes, length};
 ghost use Rattle.std.specs.Fmt.{decimal};
-ghost use Rattle.command_parts.specs.AlgorithmFaults.{number_of_text_fault, sentence_of};
 ghost use Rattle.command_parts.specs.Lines.{fault_line, IsLineWritten};
 ghost use Rattle.command_parts.specs.Findings.{starves_line as starves_line_by};
-ghost use Rattle.command_parts.specs.StatesFaults.{number_of_states_fault, sentence_of_states_fault};
+ghost use Rattle.command_parts.specs.declared.fault.CommandFault.TheVariants.{Algorithm as AlgorithmFault, OutOfRange, States as StatesFaultAt};
 ghost use Rattle.command_parts.specs.Statuses.{status_of};
 
 use crate::algorithm_fault::{number_of_text_fault, sentence_of};
@@ -53,10 +52,24 @@ fn line_with_sentence(before: &str, at: u64, number: u64, sentence: &str) -> Arr
     line
 }
 
+/// The line for an input line that is refused, since a value would leave its range at a line of the algorithm's text.
+fn line_of_range(at: u64, algorithm_line: u64) -> ArrayString<128>
+    ensures { result.bytes ≡ fault_line (OutOfRange at algorithm_line) }
+{
+    let mut line = ArrayString::new();
+    put(&mut line, "rmelab: line ", at);
+    put(
+        &mut line,
+        ": refused 16: out of range at algorithm line ",
+        algorithm_line,
+    );
+    line.push_str("\n");
+    line
+}
+
 /// The line for a fault of a line of an algorithm's text.
 fn line_of_algorithm(at: u64, fault: ReadFault) -> ArrayString<128>
-    ensures { result.bytes ≡ codes "rmelab: algorithm line " ++ decimal at ++ codes ": fault " ++ decimal (number_of_text_fault fault)
-        ++ codes ": " ++ sentence_of fault ++ 10 ∷ [] }
+    ensures { result.bytes ≡ fault_line (AlgorithmFault at fault) }
 {
     let number = number_of_text_fault(fault);
     line_with_sentence("rmelab: algorithm line ", at, number, sentence_of(fault))
@@ -64,8 +77,7 @@ fn line_of_algorithm(at: u64, fault: ReadFault) -> ArrayString<128>
 
 /// The line for a fault of a line of states.
 fn line_of_states(at: u64, fault: StatesFault) -> ArrayString<128>
-    ensures { result.bytes ≡ codes "rmelab: states line " ++ decimal at ++ codes ": fault " ++ decimal (number_of_states_fault fault)
-        ++ codes ": " ++ sentence_of_states_fault fault ++ 10 ∷ [] }
+    ensures { result.bytes ≡ fault_line (StatesFaultAt at fault) }
 {
     line_with_sentence("rmelab: states line ", at, fault.number(), fault.sentence())
 }
@@ -109,6 +121,10 @@ pub fn line_of(fault: CommandFault) -> ArrayString<128>
     match fault {
         CommandFault::Text { line, number } => line_of_place(line, ": fault ", number),
         CommandFault::Refused { line, number } => line_of_place(line, ": refused ", number),
+        CommandFault::OutOfRange {
+            line,
+            algorithm_line,
+        } => line_of_range(line, algorithm_line),
         CommandFault::Algorithm { line, fault } => line_of_algorithm(line, fault),
         CommandFault::States { line, fault } => line_of_states(line, fault),
         CommandFault::Image { rule } => line_around("rmelab: image: rule ", rule, "\n"),

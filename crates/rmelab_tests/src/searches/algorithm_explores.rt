@@ -165,7 +165,7 @@ step 0
 step 0
 step 0
 @text LINE_11
-rmelab: line 11: refused 16
+rmelab: line 11: refused 16: out of range at algorithm line 9
 @text NO_WAIT
 rme 1 procs 2 limit 4 cap 1
 lock 0
@@ -183,7 +183,7 @@ step 1
 step 0
 step 1
 @text LINE_14
-rmelab: line 14: refused 16
+rmelab: line 14: refused 16: out of range at algorithm line 27
 @text OUT_OF_RANGE_ALONE
 rme 1 procs 1 limit 1 cap 1
 lock 0

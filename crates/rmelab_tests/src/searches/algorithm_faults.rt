@@ -144,7 +144,7 @@ enter 0
 answer 0 done
 begin 1
 @err
-rmelab: line 5: refused 16
+rmelab: line 5: refused 16: out of range at algorithm line 16
 @row rmelab replay --algorithm a.lock b.rme @ends 2 @file a.lock
 algorithm four for 2 processes
 promises exclusion, order
@@ -164,7 +164,7 @@ rme 1 procs 2 limit 1 cap 1
 lock 0
 step 0
 @err
-rmelab: line 3: refused 16
+rmelab: line 3: refused 16: out of range at algorithm line 9
 @row rmelab replay --algorithm a.lock --variant right @ends 2 @err BAD_VARIANT
 @row rmelab replay --variant wrong --algorithm a.lock @ends 2 @err BAD_VARIANT
 @row rmelab replay --algorithm a.lock --image a.json @ends 2 @err BAD_VARIANT

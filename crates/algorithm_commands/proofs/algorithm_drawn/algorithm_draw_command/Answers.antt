@@ -3,8 +3,16 @@ use Rattle.std.proofs.lemmas.Result.{err_from_is_err_and}
 use Rattle.algorithms.specs.declared.first_values.InitializedAlgorithm.{InitializedAlgorithm}
 use Rattle.schedule.specs.Schedules.{Scheduled}
 use Rattle.algorithm_commands.specs.AlgorithmDraws.{DrawsAlgorithm}
-use Rattle.algorithm_commands.proofs.AlgorithmTexts.{both_read, no_schedule}
+use Rattle.algorithm_commands.proofs.AlgorithmTexts.{both_read, no_algorithm, no_schedule}
 use Rattle.algorithm_commands.proofs.algorithm_drawn.algorithm_draw_command.Goals as goal
+
+pub returns-in_err-numbers-clause-ends : goal.returns-in_err-numbers-clause-ends
+returns-in_err-numbers-clause-ends g c =
+    let p = err_from_is_err_and c.from_residual-in_err-numbers.result c.from_residual-in_err-numbers.ensures.1 in
+    rw (p.1, p.2) (
+    no_algorithm (option_copied c.args.text) (g.R.Source.reading c.args.r.now) (g.W.Sink.tape c.args.w.now) _
+    (c.in_err-numbers.ensures.unread (option_copied c.args.text))
+    )
 
 pub returns-in_err-schedule-clause-ends : goal.returns-in_err-schedule-clause-ends
 returns-in_err-schedule-clause-ends g c =

@@ -11,6 +11,14 @@ returns-in_err-algorithm-clause-ends g c =
     no_session (option_copied c.args.text) (g.R.Source.reading c.args.r.now) (g.F.Folder.used c.args.folder.now) (g.W.Sink.tape c.args.w.now) _ c.in_err-algorithm.ensures.unread
     )
 
+pub returns-in_err-numbers-clause-ends : goal.returns-in_err-numbers-clause-ends
+returns-in_err-numbers-clause-ends g c =
+    let p = err_from_is_err_and c.from_residual-in_err-numbers.result c.from_residual-in_err-numbers.ensures.1 in
+    rw (p.1, p.2) (
+    no_session (option_copied c.args.text) (g.R.Source.reading c.args.r.now) (g.F.Folder.used c.args.folder.now) (g.W.Sink.tape c.args.w.now) _
+    (c.in_err-numbers.ensures.unread (option_copied c.args.text))
+    )
+
 pub returns-clause-ends : goal.returns-clause-ends
 returns-clause-ends g c =
     session_held (option_copied c.args.text) (option_copied c.args.start)

@@ -13,7 +13,10 @@ pub returns-in_err-monitor-clause-unmade : goal.returns-in_err-monitor-clause-un
 returns-in_err-monitor-clause-unmade c =
     let s = c.args.schedule.now in
     let p = err_from_is_err_and c.from_residual.result c.from_residual.ensures.1 in
-    rw (p.1, p.2) (no_world (new_refusal c.args.algorithm s.procs s.limit) (first_monitor c.args.algorithm s.procs s.limit) s.lines _ c.in_err-monitor.ensures.unmade)
+    rw (p.1, p.2) (
+    no_world c.args.algorithm.algorithm (new_refusal c.args.algorithm s.procs s.limit) (first_monitor c.args.algorithm s.procs s.limit) s.lines _
+    (c.in_err-monitor.ensures.unmade c.requires)
+    )
 
 pub returns-clause-made : goal.returns-clause-made
 returns-clause-made c =
@@ -28,5 +31,5 @@ returns-clause-accepted c =
 pub returns-clause-unmade : goal.returns-clause-unmade
 returns-clause-unmade c =
     let s = c.args.schedule.now in
-    subst (λ (run : AlgorithmRun (ℕ × RunRefusal)). IfErr c.play_all.result (IsFaultOfRun run))
-    (run_on_world c.args.algorithm s.procs s.limit s.lines c.in_ok-monitor.monitor c.in_ok-monitor.ensures.made c.in_ok-monitor.ensures.accepted) c.play_all.ensures.refused
+    subst (λ (run : AlgorithmRun (ℕ × RunRefusal)). IfErr c.play_all.result (IsFaultOfRun c.args.algorithm.algorithm run))
+    (run_on_world c.args.algorithm s.procs s.limit s.lines c.in_ok-monitor.monitor c.in_ok-monitor.ensures.made c.in_ok-monitor.ensures.accepted) (c.play_all.ensures.refused c.args.algorithm.algorithm c.requires)

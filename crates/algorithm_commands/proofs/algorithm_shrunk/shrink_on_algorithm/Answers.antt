@@ -16,4 +16,4 @@ returns-in-Ok-None-clause-reports g c =
 
 pub returns-in-Err-clause-reports : goal.returns-in-Err-clause-reports
 returns-in-Err-clause-reports g c =
-    rw c.replay_fault.ensures (not_shrunk c.args.algorithm c.args.schedule.now (g.W.Sink.tape c.args.w.now) c.in-Err.fault c.in-Err.ensures)
+    rw (c.replay_fault.ensures c.args.algorithm.algorithm c.requires) (not_shrunk c.args.algorithm c.args.schedule.now (g.W.Sink.tape c.args.w.now) c.in-Err.fault c.in-Err.ensures)

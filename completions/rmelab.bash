@@ -58,6 +58,7 @@ _rmelab() {
         states:--procs) : && return ;;
         states:--calls) : && return ;;
         states:--crashes) : && return ;;
+        states:--system-crashes) : && return ;;
         states:--limit) : && return ;;
         states:--cap) : && return ;;
         states:--width) : && return ;;
@@ -79,7 +80,7 @@ _rmelab() {
         explore) mapfile -t COMPREPLY < <(compgen -W "--variant --algorithm --procs --calls --crashes --system-crashes --moves --states --limit --cap --width --stuck --starving --all-variables --jobs -h --help" -- "$word") ;;
         cost) mapfile -t COMPREPLY < <(compgen -W "--algorithm --model --super-passages --procs --calls --crashes --system-crashes --states --limit --mean --seed --rounds --steps -h --help" -- "$word") ;;
         export) mapfile -t COMPREPLY < <(compgen -W "--promela --procs --crashes --limit -h --help" -- "$word") ;;
-        states) mapfile -t COMPREPLY < <(compgen -W "--variant --algorithm --procs --calls --crashes --limit --cap --width --words --digits --part --parts -h --help" -- "$word"; compgen -f -- "$word") ;;
+        states) mapfile -t COMPREPLY < <(compgen -W "--variant --algorithm --procs --calls --crashes --system-crashes --limit --cap --width --words --digits --part --parts -h --help" -- "$word"; compgen -f -- "$word") ;;
         judge) mapfile -t COMPREPLY < <(compgen -W "--json -h --help" -- "$word"; compgen -f -- "$word") ;;
         draw) mapfile -t COMPREPLY < <(compgen -W "--variant --algorithm --image --svg --html -h --help" -- "$word"; compgen -f -- "$word") ;;
         shrink) mapfile -t COMPREPLY < <(compgen -W "--variant --algorithm -h --help" -- "$word"; compgen -f -- "$word") ;;

@@ -80,6 +80,7 @@ complete -c rmelab -n '__fish_seen_subcommand_from states' -l algorithm -r -F -d
 complete -c rmelab -n '__fish_seen_subcommand_from states' -l procs -x -d '1 to 64 processes'
 complete -c rmelab -n '__fish_seen_subcommand_from states' -l calls -x -d 'The calls that are started, as for `explore`'
 complete -c rmelab -n '__fish_seen_subcommand_from states' -l crashes -x -d 'At most C crashes; 0 without it'
+complete -c rmelab -n '__fish_seen_subcommand_from states' -l system-crashes -x -d 'At most G crashes of all processes at once; 0 without it'
 complete -c rmelab -n '__fish_seen_subcommand_from states' -l limit -x -d 'Numbers up to L; 4 without it'
 complete -c rmelab -n '__fish_seen_subcommand_from states' -l cap -x -d 'Room for M messages; 1 without it; not with --algorithm'
 complete -c rmelab -n '__fish_seen_subcommand_from states' -l width -x -d '1 to 8 words a message; 1 without it; not with --algorithm'

@@ -99,8 +99,8 @@ export = part (codes "export") (
 abbrev pub states : Shape
 states = part (codes "states") (
     required_rule (word (codes "TOOL")) ∷ variant ∷ algorithm ∷ required_rule (number (codes "procs")) ∷ option (codes "calls")
-    ∷ number (codes "crashes") ∷ number (codes "limit") ∷ number (codes "cap") ∷ number (codes "width") ∷ number (codes "words")
-    ∷ number (codes "digits") ∷ number (codes "part") ∷ number (codes "parts") ∷ word (codes "FILE") ∷ [])
+    ∷ number (codes "crashes") ∷ number (codes "system-crashes") ∷ number (codes "limit") ∷ number (codes "cap") ∷ number (codes "width")
+    ∷ number (codes "words") ∷ number (codes "digits") ∷ number (codes "part") ∷ number (codes "parts") ∷ word (codes "FILE") ∷ [])
 
 abbrev pub judge : Shape
 judge = part (codes "judge") (flag (codes "json") ∷ word (codes "FILE") ∷ [])

@@ -198,13 +198,18 @@ pub const EXPORT: [Argument<'static>; 4] = [
 ];
 
 /// The arguments of `states`.
-pub const STATES: [Argument<'static>; 14] = [
+pub const STATES: [Argument<'static>; 15] = [
     TOOL,
     VARIANT,
     ALGORITHM,
     Argument::RequiredNumber("procs", "N", "1 to 64 processes"),
     Argument::Text("calls", "LIST", CALLS),
     Argument::Number("crashes", "C", "At most C crashes; 0 without it"),
+    Argument::Number(
+        "system-crashes",
+        "G",
+        "At most G crashes of all processes at once; 0 without it",
+    ),
     Argument::Number("limit", "L", "Numbers up to L; 4 without it"),
     Argument::Number(
         "cap",

@@ -191,19 +191,20 @@ Arguments:
   [FILE]  The states; without it, standard input is read
 
 Options:
-      --variant <V>       right, no-look, no-ties, renumber, exit-on-crash, count-up or last-skipped
-      --algorithm <FILE>  Run this algorithm, a text, in place of a variant
-      --procs <N>         1 to 64 processes
-      --calls <LIST>      The calls that are started, as for `explore`
-      --crashes <C>       At most C crashes; 0 without it
-      --limit <L>         Numbers up to L; 4 without it
-      --cap <M>           Room for M messages; 1 without it; not with --algorithm
-      --width <W>         1 to 8 words a message; 1 without it; not with --algorithm
-      --words <K>         Room for K words a state; without it, or 0, 24 more than the first has, and 8 a process
-      --digits <D>        1 to 10 characters a word; 2 without it
-      --part <I>          Check moves into part I of all states; 0 without it
-      --parts <P>         of P parts; 1 without it
-  -h, --help              Print help
+      --variant <V>         right, no-look, no-ties, renumber, exit-on-crash, count-up or last-skipped
+      --algorithm <FILE>    Run this algorithm, a text, in place of a variant
+      --procs <N>           1 to 64 processes
+      --calls <LIST>        The calls that are started, as for `explore`
+      --crashes <C>         At most C crashes; 0 without it
+      --system-crashes <G>  At most G crashes of all processes at once; 0 without it
+      --limit <L>           Numbers up to L; 4 without it
+      --cap <M>             Room for M messages; 1 without it; not with --algorithm
+      --width <W>           1 to 8 words a message; 1 without it; not with --algorithm
+      --words <K>           Room for K words a state; without it, or 0, 24 more than the first has, and 8 a process
+      --digits <D>          1 to 10 characters a word; 2 without it
+      --part <I>            Check moves into part I of all states; 0 without it
+      --parts <P>           of P parts; 1 without it
+  -h, --help                Print help
 
 In: nothing for first; else texts of states: a header and then a line for each state, as first writes them; with --algorithm the algorithm's text first: docs/use/algorithms.md. expand, check: one text. lead, home: a set of states, and then the states that are tried. walk: the sets that a schedule leads through, without that of the first state. The states are those that explore tries, by all variables.
 Out: of first the header and the line of the first state; of expand the header and a line for each move of each state, in the order of the lines and of the moves: that of its successor or, if the move goes wrong, `#` and its own; of lead the header and the lines of the states from which a move leads into the set; of home those at home, or from which a move leads into it that is no crash and ruins nothing; of check `closed: N states` if the first state is in the set, no move from it goes wrong and each leads into it, or else why it is not closed; of walk the first schedule through the sets that then goes wrong. docs/use/states.md has all of it.

@@ -1,7 +1,7 @@
 //! The states of searches as lines of texts. The lines are computed by hand, from the words of a state.
 
 /// `FIRST`: of one process that may lock and unlock. `NARROW`: the same, by one character a word. `STILL`: it may only unlock, which is
-/// refused outside, so that no move leads anywhere. `NO_STATES`: the header alone. `NO_WORDS`: a key without words, which no state has.
+/// refused outside, so that no move leads anywhere. `CRASH_OF_ALL`: the same where a crash of all may come. `NO_STATES`: the header alone. `NO_WORDS`: a key without words, which no state has.
 pub const TEXTS: &str = "
 @text FIRST
 !states 1 words 68 digits 2 of right procs 1 calls lock unlock crashes 0 limit 4 cap 1 width 1
@@ -12,6 +12,9 @@ pub const TEXTS: &str = "
 @text STILL
 !states 1 words 68 digits 2 of right procs 1 calls unlock crashes 0 limit 4 cap 1 width 1
 000?0000000000000000000000000000000000000000000001000000000000000000000000000000000000000000000000000000000000000000000000000000000000000T
+@text CRASH_OF_ALL
+!states 1 words 69 digits 2 of right procs 1 calls unlock crashes 0 system-crashes 1 limit 4 cap 1 width 1
+000?000000000000000000000000000000000000000000000100000000000000000000000100000000000000000000000000000000000000000000000000000000000000000U
 @text STILL_TWICE
 !states 1 words 68 digits 2 of right procs 1 calls unlock crashes 0 limit 4 cap 1 width 1
 000?0000000000000000000000000000000000000000000001000000000000000000000000000000000000000000000000000000000000000000000000000000000000000T
@@ -42,6 +45,10 @@ pub const STATES: &str = "
 @row rmelab states first --variant right --procs 1 --calls unlock,lock --words 0 @out FIRST
 @row rmelab states first --variant right --procs 1 --digits 1 @out NARROW
 @row rmelab states first --variant right --procs 1 --calls unlock --words 68 @out STILL
+@row rmelab states first --variant right --procs 1 --calls unlock --system-crashes 1 @out CRASH_OF_ALL
+@row rmelab states check --variant right --procs 1 --calls unlock --system-crashes 1 @in CRASH_OF_ALL @ends 1 @out
+open: state 1 leads out of it
+@row rmelab states expand --variant right --procs 1 --calls unlock @in CRASH_OF_ALL @ends 2 @err OTHER_HEADER
 @row rmelab states expand --variant right --procs 1 --calls unlock @in STILL @out NO_STATES
 @row rmelab states expand --variant right --procs 1 --calls unlock a.states @file a.states STILL @out NO_STATES
 @row rmelab states expand --variant right --procs 1 --calls unlock @in NO_STATES @out NO_STATES

@@ -24,6 +24,7 @@ _rmelab() {
         hunt:--first-round) : && return ;;
         hunt:--rounds) : && return ;;
         hunt:--steps) : && return ;;
+        hunt:--system-crashes) : && return ;;
         hunt:--jobs) : && return ;;
         explore:--variant) mapfile -t COMPREPLY < <(compgen -W "right no-look no-ties renumber exit-on-crash count-up last-skipped" -- "$word") && return ;;
         explore:--algorithm) mapfile -t COMPREPLY < <(compgen -f -- "$word") && return ;;
@@ -38,6 +39,7 @@ _rmelab() {
         explore:--width) : && return ;;
         explore:--starving) : && return ;;
         explore:--jobs) : && return ;;
+        cost:--variant) mapfile -t COMPREPLY < <(compgen -W "right no-look no-ties renumber exit-on-crash count-up last-skipped" -- "$word") && return ;;
         cost:--algorithm) mapfile -t COMPREPLY < <(compgen -f -- "$word") && return ;;
         cost:--model) mapfile -t COMPREPLY < <(compgen -W "dsm write-through write-back" -- "$word") && return ;;
         cost:--procs) : && return ;;
@@ -76,9 +78,9 @@ _rmelab() {
     case ${COMP_WORDS[1]} in
         replay) mapfile -t COMPREPLY < <(compgen -W "--json --each --variant --algorithm --image --save -h --help" -- "$word"; compgen -f -- "$word") ;;
         run) mapfile -t COMPREPLY < <(compgen -W "--procs --messages --crash --seed --width -h --help" -- "$word") ;;
-        hunt) mapfile -t COMPREPLY < <(compgen -W "--variant --algorithm --procs --limit --seed --first-round --rounds --steps --shrink --jobs -h --help" -- "$word") ;;
+        hunt) mapfile -t COMPREPLY < <(compgen -W "--variant --algorithm --procs --limit --seed --first-round --rounds --steps --system-crashes --shrink --jobs -h --help" -- "$word") ;;
         explore) mapfile -t COMPREPLY < <(compgen -W "--variant --algorithm --procs --calls --crashes --system-crashes --moves --states --limit --cap --width --stuck --starving --all-variables --jobs -h --help" -- "$word") ;;
-        cost) mapfile -t COMPREPLY < <(compgen -W "--algorithm --model --super-passages --procs --calls --crashes --system-crashes --states --limit --mean --seed --rounds --steps -h --help" -- "$word") ;;
+        cost) mapfile -t COMPREPLY < <(compgen -W "--variant --algorithm --model --super-passages --procs --calls --crashes --system-crashes --states --limit --mean --seed --rounds --steps -h --help" -- "$word") ;;
         export) mapfile -t COMPREPLY < <(compgen -W "--promela --procs --crashes --limit -h --help" -- "$word") ;;
         states) mapfile -t COMPREPLY < <(compgen -W "--variant --algorithm --procs --calls --crashes --system-crashes --limit --cap --width --words --digits --part --parts -h --help" -- "$word"; compgen -f -- "$word") ;;
         judge) mapfile -t COMPREPLY < <(compgen -W "--json -h --help" -- "$word"; compgen -f -- "$word") ;;

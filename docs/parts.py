@@ -15,7 +15,7 @@ CONSTANT = re.compile(rf"const (\w+): &str =\s+{STRING};", re.S)
 ROW = re.compile(r'Argument::(Required|)(\w+)\(((?:[^()"]|"(?:\\.|[^"\\])*")*)\)')
 SHARED = re.compile(r"const (\w+): Argument<'static> =\s+(.*?);\n", re.S)
 TABLE = re.compile(r"const (\w+): \[Argument<'static>; \d+\] =\s+\[(.*?)\];\n", re.S)
-COMMAND = re.compile(rf'let about = {STRING};\s+command\(alloc, "(\w+)", about, (\w+), &argument::(\w+)\)')
+COMMAND = re.compile(rf'let about =\s*{STRING};\s+command\(alloc, "(\w+)", about, (\w+), &argument::(\w+)\)')
 ENTRY = re.compile(rf"(?:(\w+)(?: \{{ \.\. \}}|\(_\))? => |\n        )\({STRING}, (\w+)\)")
 BEGINS = re.compile(r"(<!-- made by docs/from-sources: ([\w ./-]+) -->\n).*?(<!-- end of what is made -->)", re.S)
 FENCES = {".c": "c", ".rs": "rust", ".py": "python", ".rt": "rust"}

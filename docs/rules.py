@@ -12,7 +12,7 @@ TOP = os.path.dirname(os.path.dirname(os.path.realpath(__file__)))
 ARCHITECTURE = "docs/dev/architecture.md"
 THEOREM = "docs/theory/theorem.md"
 
-MOST_CRATES = 41
+MOST_CRATES = 42
 MOST_LINES_OF_A_FILE = 500
 MOST_LINES_OF_A_BODY = 40
 WIDEST_CLAUSE = 140  # Bytes.

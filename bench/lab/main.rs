@@ -1,7 +1,7 @@
 //! The opponent of `rmelab`'s replay, judge and hunt: the same work in plain Rust, without contracts, written for speed.
 //! It prints the same bytes, tells the same faults and ends with the same status.
 //!
-//!     lab replay < SCHEDULE        lab judge < TRACE        lab hunt VARIANT SEED ROUNDS STEPS
+//!     lab replay < SCHEDULE        lab judge < TRACE        lab hunt VARIANT SEED ROUNDS STEPS [CRASHES OF ALL]
 //!
 //! It also writes the schedule of a hunt with a letter a move, `letters` in the place of `hunt`, for the tests of the
 //! drawing rule, and draws what the two are measured by, with a given number of crashes among 1,000 moves:
@@ -41,10 +41,11 @@ fn obey(words: &[String], out: &mut Vec<u8>) -> Result<bool, Fault> {
             replay::replay(&text, out)
         }
         ("judge", []) => trial::judge(&mut io::stdin().lock(), out),
-        ("hunt" | "letters", &[seed, rounds, steps]) => {
+        ("hunt" | "letters", &[seed, rounds, steps, ref all @ ..]) => {
+            let all = all.first().copied().unwrap_or(0);
             let variant = Variant::named(&words[1]).ok_or(Fault::BadSize)?;
             let hunts = if command == "hunt" { hunt::hunt } else { hunt::letters };
-            hunts(variant, [seed, rounds, steps], out)
+            hunts(variant, [seed, rounds, steps, all], out)
         }
         ("schedule", &[procs, lines, seed, crashes]) => {
             *out = Plan { procs, lines, seed, crashes }.schedule();

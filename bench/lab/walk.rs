@@ -8,6 +8,7 @@ use crate::world::{Next, Told, World};
 #[derive(Clone, Copy)]
 pub enum Move {
     Crash,
+    CrashAll,
     Step,
     /// The start of a call. An append has this number, and the same as its value.
     Start(Call, u64),
@@ -17,6 +18,7 @@ impl Move {
     pub fn write(self, p: u64, out: &mut Vec<u8>) {
         match self {
             Move::Crash => report::line(out, "crash", &[p]),
+            Move::CrashAll => report::line(out, "crash all", &[]),
             Move::Step => report::line(out, "step", &[p]),
             Move::Start(Call::Append, number) => report::line(out, Call::Append.name(), &[p, number, number]),
             Move::Start(call, _) => report::line(out, call.name(), &[p]),
@@ -24,11 +26,12 @@ impl Move {
     }
 
     /// Writes the move as one character, by its process: `012` a step, `xyz` a crash, `lmn` lock, `fgh` consistent, `abc`
-    /// append, and then its number from `A` on, `uvw` unlock. The hunts start no other calls.
+    /// append, and then its number from `A` on, `uvw` unlock. The hunts start no other calls. `*` is a crash of all.
     pub fn write_letter(self, p: u64, out: &mut Vec<u8>) {
         let letters = match self {
             Move::Step => b"012",
             Move::Crash => b"xyz",
+            Move::CrashAll => b"***",
             Move::Start(Call::Lock, _) => b"lmn",
             Move::Start(Call::Consistent, _) => b"fgh",
             Move::Start(Call::Append, _) => b"abc",

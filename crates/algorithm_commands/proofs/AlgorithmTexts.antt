@@ -12,22 +12,27 @@ use Rattle.schedule.specs.Schedules.{Scheduled, schedule_at}
 use Rattle.schedule.specs.Tapes.{Tape, Reading}
 use Rattle.schedule.specs.Wholes.{WasRead}
 use Rattle.command_parts.specs.declared.fault.CommandFault.TheVariants as faults
-use Rattle.algorithm_commands.specs.AlgorithmTexts.{EndsOnAlgorithm, EndsOnBoth, IsAlgorithmFault, IsUnreadAlgorithm, TellsFault, text_of}
+use Rattle.algorithm_commands.specs.AlgorithmTexts.{EndsOnAlgorithm, EndsOnBoth, IsAlgorithmFault, IsUnreadAlgorithm, TellsFault, TellsLineFault, text_of}
 use Rattle.command_parts.specs.declared.ending.Ending.{Ending}
 use Rattle.command_parts.specs.declared.fault.CommandFault.{CommandFault}
 use Rattle.command_parts.specs.Endings.{FailsToRead, RefusesCommand, TellsReads}
 use Rattle.command_parts.specs.ScheduleTexts.{IsWrongText}
 
 -- the command answers the fault of this line that has this number
-pub tells_fault : (line number : ℕ) (of_text : ReadFault) → ((1 ≤ number) × (number ≤ 18) → number_of_algorithm_fault of_text ≡ Some number)
-    → TellsFault (of_reading.At line number) (faults.Algorithm line of_text)
-tells_fault line number of_text numbered = (of_text, refl, numbered)
+pub tells_fault : (text : List ℕ) (line number : ℕ) (of_text : ReadFault) (reports : CommandFault)
+    → ((1 ≤ number) × (number ≤ 18) → number_of_algorithm_fault of_text ≡ Some number) → TellsLineFault text line of_text reports
+    → TellsFault text (of_reading.At line number) reports
+tells_fault text line number of_text reports numbered tells = (of_text, tells, numbered)
 
 -- what tells a fault of a text names it, or is out of memory
 pub is_algorithm_fault : (file : Option (List ℕ)) (fault : AlgorithmFault) (reports : CommandFault) → IsRefusalOf fault ((a : InitializedAlgorithm) × SpellsAlgorithm (text_of file) a)
-    → TellsFault fault reports → IsAlgorithmFault file reports
+    → TellsFault (text_of file) fault reports → IsAlgorithmFault file reports
 is_algorithm_fault file (of_reading.At line number) reports (inl memory) tells = absurd (cc)
-is_algorithm_fault file (of_reading.At line number) reports (inr none) tells = inr (line, tells.0, tells.1, λ a spells. none (a, spells))
+is_algorithm_fault file (of_reading.At line number) reports (inr none) tells =
+    elim tells.1 [
+      | inl memory ↦ inl memory
+      | inr names ↦ inr (line, tells.0, names, λ a spells. none (a, spells))
+    ]
 is_algorithm_fault file of_reading.OutOfMemory reports refuses tells = inl tells
 
 -- the algorithm's text is at fault: nothing was written

@@ -24,7 +24,7 @@ fault_of_hunt fault = faults.BadSize
 
 -- what the hunt answers that is asked for
 abbrev pub answer_for : InitializedAlgorithm → AlgorithmHuntArgs → Option Scheduled
-answer_for algorithm args = hunt_answer_from algorithm args.procs args.limit args.seed args.steps args.first_round args.rounds
+answer_for algorithm args = hunt_answer_from algorithm args.procs args.limit args.moves args.first_round args.rounds
 
 -- what is written for what a hunt answers: that schedule, or a least one
 abbrev pub IsWrittenFor : Bool → InitializedAlgorithm → Option Scheduled → Option Scheduled → Type 0
@@ -34,7 +34,7 @@ IsWrittenFor true algorithm answer written = IsLeastOf algorithm answer written
 -- the hunt finds a schedule with at most the moves asked for, whose verdict is against. It is written, or a least one of it
 pub record TellsHunted (algorithm : InitializedAlgorithm) (args : AlgorithmHuntArgs) (before now : Tape) (end : Result Ending CommandFault) : Type 0 where
   pub schedule : Scheduled
-  pub found : IsFoundByHunt algorithm args.procs args.limit args.steps schedule
+  pub found : IsFoundByHunt algorithm args.procs args.limit args.moves.steps schedule
   pub exact : Some schedule ≡ answer_for algorithm args
   pub written : Scheduled
   pub of_it : IsWrittenFor args.shrink algorithm (Some schedule) (Some written)
@@ -48,7 +48,7 @@ pub record TellsNothing (algorithm : InitializedAlgorithm) (args : AlgorithmHunt
 
 -- the numbers of a hunt are in their ranges, and so is that of its last round
 abbrev pub AlgorithmHuntFits : AlgorithmHuntArgs → Type 0
-AlgorithmHuntFits args = IsHuntPart args.first_round args.rounds args.steps
+AlgorithmHuntFits args = IsHuntPart args.first_round args.rounds args.moves
 
 -- the rounds or their moves are outside their ranges, or the algorithm has no world of these sizes, and nothing was written
 pub record HasNoHunt (algorithm : InitializedAlgorithm) (args : AlgorithmHuntArgs) (before now : Tape) : Type 0 where

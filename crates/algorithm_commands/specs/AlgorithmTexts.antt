@@ -5,6 +5,7 @@ use Rattle.algorithms.specs.declared.fault.AlgorithmFault.{AlgorithmFault}
 use Rattle.algorithms.specs.declared.fault.AlgorithmFault.TheVariants as of_reading
 use Rattle.algorithms.specs.declared.fault.ReadFault.{ReadFault}
 use Rattle.algorithms.specs.declared.first_values.InitializedAlgorithm.{InitializedAlgorithm}
+use Rattle.algorithm_texts.specs.FaultDetails.{fault_detail}
 use Rattle.algorithm_texts.specs.Programs.{SpellsAlgorithm}
 use Rattle.cli.specs.Names.{number_of_algorithm_fault}
 use Rattle.schedule.specs.Schedules.{Scheduled, schedule_at}
@@ -24,17 +25,23 @@ text_of file = unwrap_or file []
 abbrev pub SpellsNoAlgorithm : List ℕ → Type 0
 SpellsNoAlgorithm text = (a : InitializedAlgorithm) → SpellsAlgorithm text a → ⊥
 
+-- the command's fault names the line of a text and its fault, with what more is said of it; or there is no memory
+abbrev pub TellsLineFault : List ℕ → ℕ → ReadFault → CommandFault → Type 0
+TellsLineFault text line of_text reports = (reports ≡ faults.OutOfMemory) ⊎ (reports ≡ faults.Algorithm line of_text (fault_detail text line of_text))
+
 -- the text of the algorithm's file is at fault, and spells no algorithm; or there is no memory
 abbrev pub IsAlgorithmFault : Option (List ℕ) → CommandFault → Type 0
 IsAlgorithmFault file fault =
-    (fault ≡ faults.OutOfMemory) ⊎ ((line : ℕ) × (of_text : ReadFault) × (fault ≡ faults.Algorithm line of_text) × SpellsNoAlgorithm (text_of file))
+    (fault ≡ faults.OutOfMemory)
+    ⊎ ((line : ℕ) × (of_text : ReadFault) × (fault ≡ faults.Algorithm line of_text (fault_detail (text_of file) line of_text))
+    × SpellsNoAlgorithm (text_of file))
 
 -- the command's fault names the line of this fault of a text, and the fault with its number
-abbrev pub TellsFault : AlgorithmFault → CommandFault → Type 0
-TellsFault (of_reading.At line number) reports =
-    (of_text : ReadFault) × (reports ≡ faults.Algorithm line of_text)
+abbrev pub TellsFault : List ℕ → AlgorithmFault → CommandFault → Type 0
+TellsFault text (of_reading.At line number) reports =
+    (of_text : ReadFault) × TellsLineFault text line of_text reports
     × ((1 ≤ number) × (number ≤ 18) → number_of_algorithm_fault of_text ≡ Some number)
-TellsFault of_reading.OutOfMemory reports = reports ≡ faults.OutOfMemory
+TellsFault text of_reading.OutOfMemory reports = reports ≡ faults.OutOfMemory
 
 -- the text of the file spells an algorithm, whose local lines end; this holds of it
 pub record HoldsOfAlgorithm (file : Option (List ℕ)) (Holds : InitializedAlgorithm → Type 0) : Type 0 where

@@ -1,23 +1,23 @@
 //! The command `cost`.
 
-ghost use Rattle.std.specs.Prelude.{◌≡◌, ◌++◌, ◌≤◌, false, length, IfOk, option_copied};
-ghost use Rattle.algorithm_commands.specs.AlgorithmCosts.{AlgorithmCostEnds, CostsAlgorithm, cost_line as cost_line_by, question_of as question_asked, unbounded_line as unbounded_line_by};
+ghost use Rattle.std.specs.Prelude.{◌≡◌, ◌++◌, false, length, IfOk, option_copied};
+ghost use Rattle.algorithm_commands.specs.AlgorithmCosts.{AlgorithmCostEnds, CostsAlgorithm, question_of as question_asked};
 ghost use Rattle.algorithm_commands.specs.AlgorithmExplores.{schedule_of as schedule_by};
+ghost use Rattle.command_parts.specs.Costs.{cost_line as cost_line_by, unbounded_line as unbounded_line_by};
 ghost use Rattle.command_parts.specs.Endings.{IsEnded, Prints};
 ghost use Rattle.schedule.specs.Schedules.{spelling};
 
-use crate::algorithm_explore_command::{calls_of, schedule_of};
+use crate::algorithm_explore_command::{asked_search, schedule_of};
 use crate::algorithm_replay_command::algorithm_read;
-use crate::line::{cost_line, unbounded_line};
 use algorithm_explorer::{
-    AlgorithmCost, AlgorithmExploreFault, AlgorithmMove, CostQuestion, CostlySchedule, CrashesLeft,
-    Lasso, algorithm_cost,
+    AlgorithmExploreFault, AlgorithmMove, CostQuestion, CostlySchedule, Lasso, PassageCost,
+    algorithm_cost,
 };
 use algorithms::InitializedAlgorithm;
 use cli::arguments::args::CostArgs;
-use command_parts::findings::tell_text;
+use command_parts::costs::{tell_costly_cycle, tell_costly_schedule};
 use command_parts::{CommandFault, Ending, Meter, Screen, Work};
-use schedule::{Schedule, Sink, write_schedule};
+use schedule::Sink;
 use std::alloc::Global;
 
 /// What is asked.
@@ -30,28 +30,11 @@ fn question_of(args: &CostArgs) -> CostQuestion
     }
 }
 
-/// Writes a schedule, and then a line.
-fn tell_with_line<W: Sink>(
-    alloc: Global,
-    schedule: &Schedule,
-    line: &[u8],
-    status: u8,
-    w: &mut W,
-) -> Result<Ending, CommandFault>
-    requires { status ≤ 1 }
-    ensures prints { Prints status (spelling schedule.now ++ line.now) (W.tape w.old) (W.tape w.new) result }
-    ensures ended { IfOk result (IsEnded false (W.tape w.old).failures (W.tape w.new).failures) }
-{
-    let mut text = write_schedule(alloc, schedule)?;
-    text.extend_from_slice(line)?;
-    tell_text(&text, status, w)
-}
-
 /// Writes a schedule that reaches the greatest cost, and what a passage costs on it.
 fn tell_cost<W: Sink>(
     alloc: Global,
     args: &CostArgs,
-    found: &CostlySchedule,
+    found: &CostlySchedule<AlgorithmMove>,
     w: &mut W,
 ) -> Result<Ending, CommandFault>
     ensures prints { Prints 0 (spelling (schedule_by args.now.search found.now.schedule.items)
@@ -59,8 +42,7 @@ fn tell_cost<W: Sink>(
     ensures ended { IfOk result (IsEnded false (W.tape w.old).failures (W.tape w.new).failures) }
 {
     let schedule = schedule_of(alloc, &args.search, found.schedule.as_slice())?;
-    let line = cost_line(args.kind, found.process, found.cost);
-    tell_with_line(alloc, &schedule, line.as_bytes(), 0, w)
+    tell_costly_schedule(alloc, &schedule, args.kind, found.process, found.cost, w)
 }
 
 /// Writes a lasso: its stem and its cycle as a schedule, and of which process no cost is the greatest.
@@ -78,8 +60,14 @@ fn tell_unbounded<W: Sink>(
     let cycle = lasso.cycle.as_slice();
     path.extend_from_slice(cycle)?;
     let schedule = schedule_of(alloc, &args.search, &path)?;
-    let line = unbounded_line(args.kind, lasso.process, cycle.len() as u64);
-    tell_with_line(alloc, &schedule, line.as_bytes(), 1, w)
+    tell_costly_cycle(
+        alloc,
+        &schedule,
+        args.kind,
+        lasso.process,
+        cycle.len() as u64,
+        w,
+    )
 }
 
 /// Writes the greatest cost of a passage of the algorithm with a schedule that reaches it, or a cycle by which there is none.
@@ -93,26 +81,19 @@ fn tell_costs<S: Screen, W: Sink>(
     ensures ends { CostsAlgorithm algorithm args.now (W.tape w.old) (W.tape w.new) result }
     ensures ended { IfOk result (IsEnded false (W.tape w.old).failures (W.tape w.new).failures) }
 {
-    let calls = calls_of(alloc, &algorithm, &args.search)?;
+    let search = asked_search(alloc, algorithm, &args.search)?;
     let mut meter = Meter::new(screen, Work::Search);
     let found = algorithm_cost(
         alloc,
-        algorithm,
-        args.search.procs,
-        args.search.limit,
-        CrashesLeft {
-            alone: Some(args.search.crashes),
-            together: args.search.system_crashes,
-        },
-        &calls,
+        search,
         question_of(args),
         args.search.states,
         &mut meter,
     );
     meter.end();
     match found {
-        Ok(AlgorithmCost::Greatest(found)) => tell_cost(alloc, args, &found, w),
-        Ok(AlgorithmCost::Unbounded(lasso)) => tell_unbounded(alloc, args, &lasso, w),
+        Ok(PassageCost::Greatest(found)) => tell_cost(alloc, args, &found, w),
+        Ok(PassageCost::Unbounded(lasso)) => tell_unbounded(alloc, args, &lasso, w),
         Err(AlgorithmExploreFault::Refused(_)) => Err(CommandFault::BadSize),
         Err(AlgorithmExploreFault::TooManyStates) => Err(CommandFault::TooManyStates),
         Err(AlgorithmExploreFault::OutOfMemory) => Err(CommandFault::OutOfMemory),

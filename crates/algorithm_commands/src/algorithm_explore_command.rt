@@ -1,8 +1,9 @@
 //! The command `explore` on an algorithm's text.
 
 ghost use Rattle.std.specs.Prelude.{◌≡◌, false, unwrap_or, IfErr, IfOk, OnOk, Some, option_copied};
-ghost use Rattle.algorithm_commands.specs.AlgorithmExplores.{AlgorithmExploreEnds, AlgorithmBothEnd, AlgorithmShortestEnds, AlgorithmStarvingEnds, AlgorithmStuckEnds, all_line_but, ExploresAlgorithm, ExploresJudged, calls_had as had_calls, calls_listed as listed_calls, calls_of as calls_asked, schedule_of as schedule_by, searches_progress as progress_searched};
+ghost use Rattle.algorithm_commands.specs.AlgorithmExplores.{AlgorithmExploreEnds, AlgorithmBothEnd, AlgorithmShortestEnds, AlgorithmStarvingEnds, AlgorithmStuckEnds, all_line_but, ExploresAlgorithm, ExploresJudged, asked_search as search_asked, calls_had as had_calls, calls_listed as listed_calls, schedule_of as schedule_by, searches_progress as progress_searched};
 ghost use Rattle.algorithm_commands.specs.AlgorithmFindings.{line_by, world_call};
+ghost use Rattle.algorithm_explorer.specs.Spaces.{search_of};
 ghost use Rattle.command_parts.specs.Endings.{IsEnded, Prints};
 ghost use Rattle.schedule.specs.Schedules.{spelling};
 
@@ -13,7 +14,7 @@ use crate::algorithm_stuck::tell_stuck;
 use crate::line::left_out_line;
 use algorithm_explorer::{
     AlgorithmBounds, AlgorithmExploreFault, AlgorithmMove, CrashesLeft, LeftOut, SearchOutcome,
-    shortest_algorithm_schedule_in_parallel,
+    SearchedAlgorithm, shortest_algorithm_schedule_in_parallel,
 };
 use algorithms::{AlgorithmCall, Entries, InitializedAlgorithm, ProgressPromise};
 use cli::arguments::args::{AlgorithmCalls, AlgorithmExploreArgs, Cycles};
@@ -65,15 +66,25 @@ pub(crate) fn calls_listed(
     Ok(calls)
 }
 
-/// The calls that the search starts.
-pub(crate) fn calls_of(
+/// The search that is asked for.
+pub(crate) fn asked_search(
     alloc: Global,
-    algorithm: &InitializedAlgorithm,
+    algorithm: InitializedAlgorithm,
     args: &AlgorithmExploreArgs,
-) -> Result<Vec<AlgorithmCall>, AllocError>
-    ensures { IfOk result (λ calls. calls.items ≡ calls_asked algorithm.now args.now) }
+) -> Result<SearchedAlgorithm, AllocError>
+    ensures { IfOk result (λ search. search_of search ≡ search_asked algorithm args.now) }
 {
-    calls_listed(alloc, asked_calls(algorithm, args))
+    let calls = calls_listed(alloc, asked_calls(&algorithm, args))?;
+    Ok(SearchedAlgorithm {
+        algorithm,
+        procs: args.procs,
+        limit: args.limit,
+        crashes: CrashesLeft {
+            alone: Some(args.crashes),
+            together: args.system_crashes,
+        },
+        calls,
+    })
 }
 
 /// A call as one of a schedule.
@@ -166,20 +177,13 @@ fn tell_judged<T: Threads + Sync, S: Screen, W: Sink>(
         moves: args.moves,
         states: args.states,
     };
-    let calls = calls_of(alloc, &algorithm, args)?;
+    let search = asked_search(alloc, algorithm, args)?;
     let mut meter = Meter::new(screen, Work::Search);
     let found = shortest_algorithm_schedule_in_parallel(
         rt,
         alloc,
         jobs_of(rt, args.jobs) as usize,
-        algorithm,
-        args.procs,
-        args.limit,
-        CrashesLeft {
-            alone: Some(args.crashes),
-            together: args.system_crashes,
-        },
-        &calls,
+        search,
         &bounds,
         &mut meter,
     );

@@ -42,26 +42,26 @@ fn schedule_hunted<T: Threads + Sync, M: Watch>(
 ) -> Result<Option<Schedule>, AlgorithmHuntFault>
     ensures written { IfOk result (IsWrittenFor args.now.shrink algorithm (answer_for algorithm args.now)) }
     ensures found { OnOk result (IfSome (answer_for algorithm args.now)
-        (IsFoundByHunt algorithm args.now.procs args.now.limit args.now.steps)) }
+        (IsFoundByHunt algorithm args.now.procs args.now.limit args.now.moves.steps)) }
     ensures accepted { OnOk result (new_refusal algorithm args.now.procs args.now.limit ≡ None) }
     ensures rounds { IsErrOf result AlgorithmHuntFault.BadRounds
         ↔ ((args.now.rounds ≡ 0) ⊎ (10000 < args.now.first_round + args.now.rounds)) }
     ensures steps { IsErrOf result AlgorithmHuntFault.BadSteps
         ↔ ((0 < args.now.rounds) × (args.now.first_round + args.now.rounds ≤ 10000)
-        × ((args.now.steps ≡ 0) ⊎ (10000 < args.now.steps))) }
+        × ((args.now.moves.steps ≡ 0) ⊎ (10000 < args.now.moves.steps))) }
     ensures refused { (e : RefusalOf) → IsErrOf result (AlgorithmHuntFault.Refused e)
         → new_refusal algorithm args.now.procs args.now.limit ≡ Some e }
 {
     let (procs, limit) = (args.procs, args.limit);
-    let (seed, first, rounds, steps) = (args.seed, args.first_round, args.rounds, args.steps);
+    let (moves, first, rounds) = (args.moves, args.first_round, args.rounds);
     let jobs = jobs_of(rt, args.jobs);
     if args.shrink {
         hunt_least_algorithm_in_parallel(
-            rt, alloc, jobs, algorithm, procs, limit, seed, first, rounds, steps, watch,
+            rt, alloc, jobs, algorithm, procs, limit, moves, first, rounds, watch,
         )
     } else {
         hunt_algorithm_in_parallel(
-            rt, alloc, jobs, algorithm, procs, limit, seed, first, rounds, steps, watch,
+            rt, alloc, jobs, algorithm, procs, limit, moves, first, rounds, watch,
         )
     }
 }

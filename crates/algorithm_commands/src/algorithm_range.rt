@@ -4,9 +4,9 @@ ghost use Rattle.std.specs.Prelude.{◌≡◌, false, IfErr, IfOk, OnOk};
 ghost use Rattle.algorithm_commands.specs.AlgorithmExplores.{ExploresInRange};
 ghost use Rattle.command_parts.specs.Endings.{IsEnded};
 
-use crate::algorithm_explore_command::{calls_of, tell_path};
+use crate::algorithm_explore_command::{asked_search, tell_path};
 use algorithm_explorer::{
-    AlgorithmBounds, AlgorithmExploreFault, CrashesLeft, SearchOutcome, shortest_schedule_in_range,
+    AlgorithmBounds, AlgorithmExploreFault, SearchOutcome, shortest_schedule_in_range,
 };
 use algorithms::InitializedAlgorithm;
 use cli::arguments::args::AlgorithmExploreArgs;
@@ -34,20 +34,13 @@ pub(crate) fn tell_in_range<T: Threads + Sync, S: Screen, W: Sink>(
         moves: args.moves,
         states: args.states,
     };
-    let calls = calls_of(alloc, &algorithm, args)?;
+    let search = asked_search(alloc, algorithm, args)?;
     let mut meter = Meter::new(screen, Work::Search);
     let found = shortest_schedule_in_range(
         rt,
         alloc,
         jobs_of(rt, args.jobs) as usize,
-        algorithm,
-        args.procs,
-        args.limit,
-        CrashesLeft {
-            alone: Some(args.crashes),
-            together: args.system_crashes,
-        },
-        &calls,
+        search,
         &bounds,
         &mut meter,
     );

@@ -5,14 +5,14 @@ ghost use Rattle.algorithms.specs.Ranked.{LocalLinesEnd, AccessesLeadOn};
 ghost use Rattle.algorithm_texts.specs.Programs.{SpellsAlgorithm};
 ghost use Rattle.algorithm_lab.specs.Replays.{run_of, WritesRunText};
 ghost use Rattle.algorithm_commands.specs.AlgorithmReplays.{AlgorithmReplayEnds, line_numbers as numbers_of, object_at_end, object_of_run, TellsAlgorithm, text_of_replay};
-ghost use Rattle.algorithm_commands.specs.AlgorithmTexts.{IsAlgorithmFault, TellsFault, text_of as text_in};
+ghost use Rattle.algorithm_commands.specs.AlgorithmTexts.{IsAlgorithmFault, TellsFault, TellsLineFault, text_of as text_in};
 ghost use Rattle.command_parts.specs.Endings.{IsEnded};
 ghost use Rattle.diagram.specs.AlgorithmSteps.{IsRunText, text_on_new};
 
 use crate::run_fault::{line_numbers, replay_fault};
 use algorithm_lab::{AlgorithmReplayFault, Monitor, ReplayText, replay_algorithm, report_of_run};
-use algorithm_texts::read_algorithm;
-use algorithms::{AlgorithmFault, InitializedAlgorithm};
+use algorithm_texts::{fault_detail, read_algorithm};
+use algorithms::{AlgorithmFault, InitializedAlgorithm, ReadFault};
 use cli::arguments::args::AlgorithmReplayArgs;
 use command_parts::algorithm_fault::fault_numbered;
 use command_parts::ending::status_after_verdict;
@@ -23,16 +23,29 @@ use diagram::{follow_algorithm, follow_algorithm_as_lines};
 use schedule::{Schedule, Sink, Source, Verdict};
 use std::alloc::{AllocError, Global};
 
+/// The command's fault for this fault of a line of an algorithm's text, with what more is said of it.
+fn line_fault(alloc: Global, text: &[u8], line: u64, fault: ReadFault) -> CommandFault
+    ensures { TellsLineFault text.now line fault result }
+{
+    match fault_detail(alloc, text, line, fault) {
+        Ok(detail) => CommandFault::Algorithm {
+            line,
+            fault,
+            detail,
+        },
+        Err(AllocError) => CommandFault::OutOfMemory,
+    }
+}
+
 /// The command's fault for a fault of an algorithm's text.
 #[tactic(auto, using(crate::proofs::AlgorithmTexts::tells_fault))]
-fn text_fault(fault: AlgorithmFault) -> CommandFault
-    ensures { TellsFault fault result }
+fn text_fault(alloc: Global, text: &[u8], fault: AlgorithmFault) -> CommandFault
+    ensures { TellsFault text.now fault result }
 {
     match fault {
-        AlgorithmFault::At { line, number } => CommandFault::Algorithm {
-            line,
-            fault: fault_numbered(number),
-        },
+        AlgorithmFault::At { line, number } => {
+            line_fault(alloc, text, line, fault_numbered(number))
+        }
         AlgorithmFault::OutOfMemory => CommandFault::OutOfMemory,
     }
 }
@@ -57,9 +70,10 @@ pub(crate) fn algorithm_read(
     ensures leads { IfOk result (λ a. AccessesLeadOn a.algorithm) }
     ensures unread { IfErr result (IsAlgorithmFault (option_copied text.entry)) }
 {
-    match read_algorithm(alloc, text_of(text)) {
+    let bytes = text_of(text);
+    match read_algorithm(alloc, bytes) {
         Ok(algorithm) => Ok(algorithm),
-        Err(fault) => Err(text_fault(fault)),
+        Err(fault) => Err(text_fault(alloc, bytes, fault)),
     }
 }
 

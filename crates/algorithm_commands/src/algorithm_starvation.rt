@@ -6,9 +6,9 @@ ghost use Rattle.command_parts.specs.Endings.{IsEnded, Prints};
 ghost use Rattle.command_parts.specs.Findings.{starves_line};
 ghost use Rattle.schedule.specs.Schedules.{spelling};
 
-use crate::algorithm_explore_command::{calls_of, schedule_of};
+use crate::algorithm_explore_command::{asked_search, schedule_of};
 use algorithm_explorer::{
-    AlgorithmExploreFault, AlgorithmMove, CrashesLeft, Lasso, StarvingOutcome,
+    AlgorithmExploreFault, AlgorithmMove, Lasso, StarvingOutcome,
     starving_algorithm_schedule,
 };
 use algorithms::InitializedAlgorithm;
@@ -49,18 +49,11 @@ pub(crate) fn tell_starving<S: Screen, W: Sink>(
     ensures ends { StarvesAlgorithm cycles algorithm args.now (W.tape w.old) (W.tape w.new) result }
     ensures ended { IfOk result (IsEnded false (W.tape w.old).failures (W.tape w.new).failures) }
 {
-    let calls = calls_of(alloc, &algorithm, args)?;
+    let search = asked_search(alloc, algorithm, args)?;
     let mut meter = Meter::new(screen, Work::Search);
     let found = starving_algorithm_schedule(
         alloc,
-        algorithm,
-        args.procs,
-        args.limit,
-        CrashesLeft {
-            alone: Some(args.crashes),
-            together: args.system_crashes,
-        },
-        &calls,
+        search,
         is_any(cycles),
         args.states,
         &mut meter,

@@ -10,11 +10,11 @@ ghost use Rattle.command_parts.specs.Endings.{IsEnded};
 ghost use Rattle.algorithm_commands.specs.AlgorithmStates.{algorithm_run, AlgorithmStatesEnd, AlgorithmStatesLack, AreAlgorithmLines};
 ghost use Rattle.command_parts.specs.StateTexts.{ToolEnds};
 
-use crate::algorithm_explore_command::{asked_calls, calls_of, tell_path};
+use crate::algorithm_explore_command::{asked_calls, asked_search, tell_path};
 use crate::algorithm_replay_command::{algorithm_read, text_of};
 use crate::machine_text::algorithm_machine_of;
-use algorithm_explorer::{AlgorithmExplorer, CrashesLeft};
-use algorithms::{AlgorithmRefusal, InitializedAlgorithm};
+use algorithm_explorer::{AlgorithmExploreFault, AlgorithmExplorer};
+use algorithms::InitializedAlgorithm;
 use cli::arguments::args::{AlgorithmExploreArgs, AlgorithmStatesArgs, StatesTool};
 use command_parts::states::expansion::expand_input;
 use command_parts::states::set_check::check_input;
@@ -39,21 +39,12 @@ fn explorer_of(
     ensures refused { IfErr result (λ fault. (fault ≡ CommandFault.OutOfMemory)
         ⊎ (fault ≡ CommandFault.BadSize) × (new_refusal algorithm args.now.procs args.now.limit ≡ None → ⊥)) }
 {
-    let calls = calls_of(alloc, &algorithm, args)?;
-    match AlgorithmExplorer::new(
-        alloc,
-        algorithm,
-        args.procs,
-        args.limit,
-        CrashesLeft {
-            alone: Some(args.crashes),
-            together: args.system_crashes,
-        },
-        &calls,
-    ) {
+    let search = asked_search(alloc, algorithm, args)?;
+    match AlgorithmExplorer::new(alloc, search) {
         Ok(explorer) => Ok(explorer),
-        Err(AlgorithmRefusal::OutOfMemory) => Err(CommandFault::OutOfMemory),
-        Err(_) => Err(CommandFault::BadSize),
+        Err(AlgorithmExploreFault::Refused(_)) => Err(CommandFault::BadSize),
+        Err(AlgorithmExploreFault::TooManyStates) => unreachable!(),
+        Err(AlgorithmExploreFault::OutOfMemory) => Err(CommandFault::OutOfMemory),
     }
 }
 

@@ -4,9 +4,9 @@ ghost use Rattle.std.specs.Prelude.{◌≡◌, false, IfErr, IfOk, OnOk};
 ghost use Rattle.algorithm_commands.specs.AlgorithmExplores.{StuckSearchEnds};
 ghost use Rattle.command_parts.specs.Endings.{IsEnded};
 
-use crate::algorithm_explore_command::{calls_of, tell_path};
+use crate::algorithm_explore_command::{asked_search, tell_path};
 use algorithm_explorer::{
-    AlgorithmExploreFault, CrashesLeft, StuckOutcome, stuck_algorithm_schedule,
+    AlgorithmExploreFault, StuckOutcome, stuck_algorithm_schedule,
 };
 use algorithms::InitializedAlgorithm;
 use cli::arguments::args::AlgorithmExploreArgs;
@@ -27,18 +27,11 @@ pub(crate) fn tell_stuck<S: Screen, W: Sink>(
     ensures ends { StuckSearchEnds algorithm args.now (W.tape w.old) (W.tape w.new) result }
     ensures ended { IfOk result (IsEnded false (W.tape w.old).failures (W.tape w.new).failures) }
 {
-    let calls = calls_of(alloc, &algorithm, args)?;
+    let search = asked_search(alloc, algorithm, args)?;
     let mut meter = Meter::new(screen, Work::Search);
     let found = stuck_algorithm_schedule(
         alloc,
-        algorithm,
-        args.procs,
-        args.limit,
-        CrashesLeft {
-            alone: Some(args.crashes),
-            together: args.system_crashes,
-        },
-        &calls,
+        search,
         args.states,
         &mut meter,
     );

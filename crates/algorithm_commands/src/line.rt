@@ -1,49 +1,13 @@
-//! The lines of a search of an algorithm and of costs, in a buffer of fixed size.
+//! The lines of a search of an algorithm and of mean costs, in a buffer of fixed size.
 
 ghost use Rattle.std.specs.Prelude.{◌≡◌, ◌+◌, ◌<◌, ◌≤◌, ◌*◌, ◌/◌, ◌%◌, ◌++◌, Some, codes, length};
-ghost use Rattle.algorithm_commands.specs.AlgorithmCosts.{cost_line as cost_line_by, kind_text as kind_text_by, unbounded_line as unbounded_line_by};
 ghost use Rattle.algorithm_commands.specs.AlgorithmExplores.{all_line_but};
 ghost use Rattle.algorithm_commands.specs.AlgorithmMeanCosts.{hundredths_text, mean_line as mean_line_by};
 
 use algorithm_explorer::LeftOut;
 use algorithm_hunts::CostTotals;
-use algorithms::PassageKind;
 use arrayvec::ArrayString;
 use command_parts::line::put;
-
-/// What stands between a process and its cost.
-fn kind_text(kind: PassageKind) -> &'static str
-    ensures text { result.now ≡ kind_text_by kind }
-    ensures few { length result.now ≤ 20 }
-{
-    match kind {
-        PassageKind::Passage => " passage cost ",
-        PassageKind::SuperPassage => " super-passage cost ",
-    }
-}
-
-/// The line that tells what a passage of a process costs on the schedule before it.
-pub(crate) fn cost_line(kind: PassageKind, process: u64, cost: u64) -> ArrayString<128>
-    ensures { result.bytes ≡ cost_line_by kind process cost }
-{
-    let mut line = ArrayString::new();
-    put(&mut line, "process ", process);
-    put(&mut line, kind_text(kind), cost);
-    line.push_str("\n");
-    line
-}
-
-/// The line that tells that passages of a process have no greatest cost, and how many moves of the schedule before it are the cycle.
-pub(crate) fn unbounded_line(kind: PassageKind, process: u64, cycle: u64) -> ArrayString<128>
-    ensures { result.bytes ≡ unbounded_line_by kind process cycle }
-{
-    let mut line = ArrayString::new();
-    put(&mut line, "process ", process);
-    line.push_str(kind_text(kind));
-    put(&mut line, "unbounded cycle ", cycle);
-    line.push_str("\n");
-    line
-}
 
 /// The mean of these costs, rounded down to hundredths: the whole ones, the tenths and the hundredths.
 fn mean_of(sum: u64, count: u64) -> (u64, u64, u64)
@@ -61,7 +25,7 @@ fn mean_of(sum: u64, count: u64) -> (u64, u64, u64)
 }
 
 /// Appends the mean of these costs to a line.
-fn put_mean(line: &mut ArrayString<128>, totals: CostTotals)
+fn put_mean(line: &mut ArrayString<192>, totals: CostTotals)
     requires few { length line.old.bytes ≤ 55 }
     requires some { 0 < totals.count }
     ensures bytes { line.new.bytes ≡ line.old.bytes ++ codes " mean " ++ hundredths_text (100 * totals.sum / totals.count) }
@@ -74,7 +38,7 @@ fn put_mean(line: &mut ArrayString<128>, totals: CostTotals)
 }
 
 /// The line that tells how many passages random schedules complete, what they cost together, and the mean.
-pub(crate) fn mean_line(totals: CostTotals) -> ArrayString<128>
+pub(crate) fn mean_line(totals: CostTotals) -> ArrayString<192>
     ensures { result.bytes ≡ mean_line_by totals }
 {
     let mut line = ArrayString::new();
@@ -89,7 +53,7 @@ pub(crate) fn mean_line(totals: CostTotals) -> ArrayString<128>
 
 /// The line that tells that nothing was found in all states, how many moves were left out, and the first line of the text that one
 /// of them came to.
-pub(crate) fn left_out_line(states: u64, left: LeftOut) -> ArrayString<128>
+pub(crate) fn left_out_line(states: u64, left: LeftOut) -> ArrayString<192>
     ensures { result.bytes ≡ all_line_but states (Some left) }
 {
     let mut line = ArrayString::new();

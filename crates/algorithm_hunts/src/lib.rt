@@ -12,6 +12,7 @@ pub mod minimization;
 pub mod parallel_hunt;
 pub mod random_rounds;
 
+pub use crashlab::RandomMoves;
 pub use explorer::{Unwatched, Watch};
 pub use hunt::{hunt_algorithm_schedule, hunt_least_algorithm_schedule};
 pub use hunt_fault::AlgorithmHuntFault;

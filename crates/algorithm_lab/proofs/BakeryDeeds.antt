@@ -26,7 +26,7 @@ use Rattle.algorithm_lab.specs.declared.run_report.TextReport.TheVariants.{Did}
 use Rattle.algorithm_lab.proofs.BakeryPlaces.{noted_by}
 
 abbrev pub promised : Promises
-promised = record { most_inside = 1; reentry = true; order = true; exit = None; recovery = None; doorway = None; progress = None; bounds = false }
+promised = record { most_inside = 1; reentry = true; order = true; progress = None; bounds = false }
 
 -- no deed, or one of a step of p
 abbrev pub OfStep : ℕ → Option Outer → Type 0

@@ -1,5 +1,5 @@
 -- A judge allows all that the text reports: of a move, of a line, of a run.
-use Rattle.std.proofs.Common.{◌≡◌, ℕ, ◌^◌, ◌≤◌, nat_lt, nat_le, Bool, true, false, ◌&&◌, cond, List, [], ◌++◌, Some, None, Ok, refl, sym, ap, ◌∙◌, subst, leb-true}
+use Rattle.std.proofs.Common.{◌≡◌, ℕ, ◌^◌, ◌≤◌, nat_lt, nat_le, Bool, true, false, ◌&&◌, cond, List, [], ◌++◌, Option, Some, None, Ok, refl, sym, ap, ◌∙◌, subst, leb-true}
 use Rattle.rmecore.specs.AbstractLock.{Abstract, nobody}
 use Rattle.rmecore.specs.World.{World, at_rest}
 use Rattle.rmecore.specs.declared.phase.Phase.{Phase}
@@ -7,10 +7,11 @@ use Rattle.redomail.specs.declared.deed.Deed.{Deed}
 use Rattle.judge.specs.Legal.{judged_all}
 use Rattle.judge.proofs.Histories.{judged_all-append}
 use Rattle.algorithms.specs.FirstWords.{from_zeros}
-use Rattle.algorithms.specs.Worlds.{new_refusal}
+use Rattle.algorithms.specs.Worlds.{new_refusal, value_refusal}
 use Rattle.algorithms.specs.declared.algorithm.Algorithm.{Algorithm}
 use Rattle.algorithms.specs.declared.algorithm.AlgorithmCall.{AlgorithmCall}
 use Rattle.algorithms.specs.declared.process.AlgorithmProcess.{AlgorithmProcess}
+use Rattle.algorithms.specs.declared.refusal.AlgorithmRefusal.{AlgorithmRefusal}
 use Rattle.algorithms.specs.declared.refusal.AlgorithmRefusal.TheVariants.{BadProcs, BadLimit}
 use Rattle.algorithm_lab.specs.Bakery.{IsBakery}
 use Rattle.algorithm_lab.specs.Monitors.{MonitorState, first_monitor, part_of_start, start_on, step_on, crash_on}
@@ -18,19 +19,19 @@ use Rattle.algorithm_lab.specs.Moves.{MoveResult, moved_by}
 use Rattle.algorithm_lab.proofs.BakeryDeeds.{judge_at, deeds_said}
 use Rattle.algorithm_lab.proofs.BakeryWorlds.{state, Alike, Matches, start_matches, step_matches, crash_matches, first_alike, first_is}
 
-none_fits : (x y z u low up : Bool) → cond (x && y && z && u) (cond (low && up) None (Some BadLimit)) (Some BadProcs) ≡ None → (u ≡ true) × (up ≡ true)
-none_fits true true true true true true e = (refl, refl)
-none_fits true true true true true false e = absurd (cc)
-none_fits true true true true false up e = absurd (cc)
-none_fits true true true false low up e = absurd (cc)
-none_fits true true false u low up e = absurd (cc)
-none_fits true false z u low up e = absurd (cc)
-none_fits false y z u low up e = absurd (cc)
+none_fits : (x y z u low up : Bool) (o : Option AlgorithmRefusal) → cond (x && y && z && u) (cond (low && up) o (Some BadLimit)) (Some BadProcs) ≡ None → (u ≡ true) × (up ≡ true)
+none_fits true true true true true true o e = (refl, refl)
+none_fits true true true true true false o e = absurd (cc)
+none_fits true true true true false up o e = absurd (cc)
+none_fits true true true false low up o e = absurd (cc)
+none_fits true true false u low up o e = absurd (cc)
+none_fits true false z u low up o e = absurd (cc)
+none_fits false y z u low up o e = absurd (cc)
 
 -- the sizes of a world are sizes of the lock
 pub fitting : (a : Algorithm) (n limit : ℕ) → new_refusal (from_zeros a) n limit ≡ None → (n ≤ 64) × (limit ≤ 2 ^ 62)
 fitting a n limit e =
-    let h = none_fits (nat_le a.least n) (nat_le n a.most) (nat_le 1 n) (nat_le n 64) (nat_lt 0 limit) (nat_le limit (2 ^ 62)) e in
+    let h = none_fits (nat_le a.least n) (nat_le n a.most) (nat_le 1 n) (nat_le n 64) (nat_lt 0 limit) (nat_le limit (2 ^ 62)) (value_refusal (from_zeros a) n limit) e in
     (leb-true n 64 h.0, leb-true limit (2 ^ 62) h.1)
 
 module _ (a : Algorithm) (b : IsBakery a) (n limit : ℕ) (most : n ≤ 64) (high : limit ≤ 2 ^ 62) where

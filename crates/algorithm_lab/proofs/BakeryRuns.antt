@@ -90,7 +90,7 @@ module _ (a : Algorithm) (b : IsBakery a) (n limit : ℕ) (most : n ≤ 64) (hig
       let led = run_fits 2 (first_monitor (from_zeros a) n limit) all nobody (first_beside a b n limit most high) in
       let reports = (run_on 2 (first_monitor (from_zeros a) n limit) all).reports in
       let of_one : first_judge a n ≡ judge_at n nobody = ap (λ k. empty_state_of k n 1) (ap (λ (p : Promises). p.most_inside) b.promises) in
-      let plain = plain_verdict a n reports (run_plain 2 (first_monitor (from_zeros a) n limit) all (ap bounds_steps b.promises, b.claims)) in
+      let plain = plain_verdict a n reports (run_plain 2 (first_monitor (from_zeros a) n limit) all (ap bounds_steps b.step_bounds, b.claims)) in
       record {
         verdict = plain ∙ ap (λ first. verdict_on first (deeds_of reports)) of_one ∙ legal_is_fine 1 (judge_at n nobody) (judge_at n led.lock) _ led.judged;
         procs = ap (λ (m : MonitorState). m.world.procs) led.beside.is;

@@ -46,7 +46,7 @@ use Rattle.algorithms.specs.declared.access.Advanced.{Advanced}
 use Rattle.algorithms.specs.declared.access.Taken.{Taken}
 use Rattle.algorithms.specs.declared.algorithm.Algorithm.{Algorithm}
 use Rattle.algorithms.specs.declared.algorithm.AlgorithmCall.{AlgorithmCall}
-use Rattle.algorithms.specs.declared.algorithm.Promises.{Promises}
+use Rattle.algorithms.specs.declared.algorithm.StepBounds.{StepBounds}
 use Rattle.algorithms.specs.declared.constants.Constants.{Constants}
 use Rattle.algorithms.specs.declared.process.AlgorithmProcess.{AlgorithmProcess}
 use Rattle.algorithms.specs.declared.refusal.AlgorithmRefusal.{AlgorithmRefusal}
@@ -268,7 +268,7 @@ module _ (a : Algorithm) (b : IsBakery a) (n limit : ℕ) (most : n ≤ 64) (hig
     -- the text bounds no own steps
     no_excess : (p : ℕ) → excess_of m p ≡ None
     no_excess p =
-        ap (λ o. excess o (counted_steps m p)) (no_bound a.promises (section_at a.entries (phase_of m p) (place_in (process_of m.world p))) (ap bounds_steps b.promises))
+        ap (λ o. excess o (counted_steps m p)) (no_bound m.world (section_at a.entries (phase_of m p) (place_in (process_of m.world p))) (ap bounds_steps b.step_bounds))
 
     abbrev step_with : ℕ → Option BoundedSection → Result Taken AlgorithmRefusal → Result EventPart RunRefusal
     step_with p over r =
@@ -448,7 +448,7 @@ module _ (a : Algorithm) (b : IsBakery a) (n limit : ℕ) (most : n ≤ 64) (hig
   -- no own step is counted in a new monitor
   pub first_is : first_monitor (from_zeros a) n limit ≡ state (replicate (length a.declarations.items) (replicate 64 0)) (replicate n resting) (replicate n phases.Out)
   first_is =
-      ap (λ (promises : Promises). record { world = world (replicate (length a.declarations.items) (replicate 64 0)) (replicate n resting); phases = replicate n phases.Out; steps = first_steps promises n }) b.promises
+      ap (λ (bounds : StepBounds). record { world = world (replicate (length a.declarations.items) (replicate 64 0)) (replicate n resting); phases = replicate n phases.Out; steps = first_steps bounds n }) b.step_bounds
 
   pub same_runs : (moves : List ScheduleMove) → SameRuns at_rest (first_monitor (from_zeros a) n limit) moves
   same_runs moves =

@@ -40,7 +40,7 @@ use Rattle.algorithm_lab.proofs.Sections.{no_bound}
 
 -- the text of this monitor bounds no own steps, and claims nothing
 abbrev pub Unbounded : MonitorState → Type 0
-Unbounded m = (bounds_steps m.world.algorithm.promises ≡ false) × (m.world.algorithm.claims.items ≡ [])
+Unbounded m = (bounds_steps m.world.algorithm.step_bounds ≡ false) × (m.world.algorithm.claims.items ≡ [])
 
 -- no breach is among these
 abbrev pub IsPlain : List TextReport → Type 0
@@ -115,7 +115,7 @@ fell_plain false p phases.DeadIn = refl
 
 no_excess : (m : MonitorState) (p : ℕ) → Unbounded m → excess_of m p ≡ None
 no_excess m p none =
-    ap (λ o. excess o (counted_steps m p)) (no_bound m.world.algorithm.promises (section_at m.world.algorithm.entries (phase_of m p) (place_in (process_of m.world p))) none.0)
+    ap (λ o. excess o (counted_steps m p)) (no_bound m.world (section_at m.world.algorithm.entries (phase_of m p) (place_in (process_of m.world p))) none.0)
 
 -- neither of these states breaks a claim
 no_claim : (m left : MonitorState) → m.world.algorithm.claims.items ≡ [] → left.world.algorithm.claims.items ≡ [] → broken_between m left ≡ None
@@ -178,7 +178,7 @@ start_plain m p call = by (start_on m p call)
 
 -- what is left is of the same text
 still_unbounded : (m left : MonitorState) → monitor_at_beginning left ≡ monitor_at_beginning m → Unbounded m → Unbounded left
-still_unbounded m left leaves none = (ap (λ (n : MonitorState). bounds_steps n.world.algorithm.promises) leaves ∙ none.0, same_claims m left leaves none.1)
+still_unbounded m left leaves none = (ap (λ (n : MonitorState). bounds_steps n.world.algorithm.step_bounds) leaves ∙ none.0, same_claims m left leaves none.1)
 
 abbrev PlainOn : MonitorState → List TextReport → MonitorState → Type 0
 PlainOn m reports left = Unbounded m → IsPlain reports × Unbounded left
@@ -233,7 +233,7 @@ plain_verdict a procs reports plain =
     ap (or_verdict v) (steps_fine 1 reports plain) ∙ or_fine v
 
 -- on a new world
-pub judged_by_deeds : (a : InitializedAlgorithm) (procs limit : ℕ) (lines : List Line) → bounds_steps a.algorithm.promises ≡ false → a.algorithm.claims.items ≡ []
+pub judged_by_deeds : (a : InitializedAlgorithm) (procs limit : ℕ) (lines : List Line) → bounds_steps a.algorithm.step_bounds ≡ false → a.algorithm.claims.items ≡ []
     → verdict_of a.algorithm procs (run_of a procs limit lines).reports ≡ verdict_on (first_judge a.algorithm procs) (deeds_of (run_of a procs limit lines).reports)
 judged_by_deeds a procs limit lines none unclaimed = plain_verdict a.algorithm procs (run_of a procs limit lines).reports (by (new_refusal a procs limit))
   where

@@ -44,7 +44,7 @@ first_restarted a procs limit =
         processes = replicate (length-replicate procs resting i) resting;
       };
       phases = replicate (length-replicate procs Out i) Out;
-      steps = steps_restarted (bounds_steps a.algorithm.promises) procs i;
+      steps = steps_restarted (bounds_steps a.algorithm.step_bounds) procs i;
     })
 
 -- a monitor with other words, processes, phases and own steps, as many of each

@@ -148,7 +148,8 @@ pub record IsBakery (a : Algorithm) : Type 0 where
   pub name : string_bytes a.name ≡ codes "bakery"
   pub least : a.least ≡ 1
   pub most : a.most ≡ 64
-  pub promises : a.promises ≡ record { most_inside = 1; reentry = true; order = true; exit = None; recovery = None; doorway = None; progress = None; bounds = false }
+  pub promises : a.promises ≡ record { most_inside = 1; reentry = true; order = true; progress = None; bounds = false }
+  pub step_bounds : a.step_bounds ≡ record { exit = None; recovery = None; doorway = None }
   pub declared : map name_of a.declarations.items ≡ codes "choosing" ∷ codes "number" ∷ codes "inside" ∷ []
   pub extents : map extent_of a.declarations.items ≡ Each ∷ Each ∷ Each ∷ []
   pub bounds : map bound_of a.declarations.items ≡ Some (Number 1) ∷ Some Limit ∷ Some (Number 1) ∷ []

@@ -3,11 +3,11 @@
 use Rattle.std.specs.Prelude.{◌≡◌, ℕ, Bool, true, false, if◌then◌else◌, List, [], ◌∷◌, ◌++◌, length, replicate, slice_index, slice_index_or, slice_set, Option, Some, None, is_some, Result, Ok, Err}
 use Rattle.rmecore.specs.declared.phase.Phase.{Phase}
 use Rattle.rmecore.specs.declared.phase.Phase.TheVariants.{Out, Inside}
-use Rattle.algorithms.specs.Worlds.{AlgorithmWorldState, first_world, process_of, entry_of, start, advance, crash, world_at_beginning as world_restarted}
+use Rattle.algorithms.specs.Worlds.{AlgorithmWorldState, first_world, process_of, entry_of, start, advance, crash, promised_steps, world_at_beginning as world_restarted}
 use Rattle.algorithms.specs.declared.access.Advanced.{Advanced}
 use Rattle.algorithms.specs.declared.algorithm.AlgorithmCall.{AlgorithmCall}
 use Rattle.algorithms.specs.declared.algorithm.AlgorithmCall.TheVariants.{Lock, Unlock, Recover}
-use Rattle.algorithms.specs.declared.algorithm.Promises.{Promises}
+use Rattle.algorithms.specs.declared.algorithm.StepBounds.{StepBounds}
 use Rattle.algorithms.specs.declared.first_values.InitializedAlgorithm.{InitializedAlgorithm}
 use Rattle.algorithms.specs.declared.process.AlgorithmPlace.{AlgorithmPlace}
 use Rattle.algorithms.specs.declared.process.AlgorithmPlace.TheVariants.{Rest, Dead, At}
@@ -29,13 +29,13 @@ pub record MonitorState : Type 0 where
   pub steps : List ℕ
 
 -- no own step is counted at the beginning. Where the text bounds none, none ever is
-abbrev pub first_steps : Promises → ℕ → List ℕ
-first_steps promises procs = if bounds_steps promises then replicate procs 0 else []
+abbrev pub first_steps : StepBounds → ℕ → List ℕ
+first_steps bounds procs = if bounds_steps bounds then replicate procs 0 else []
 
 -- a new world, in which all processes are out
 abbrev pub first_monitor : InitializedAlgorithm → ℕ → ℕ → MonitorState
 first_monitor a procs limit =
-    record { world = first_world a procs limit; phases = replicate procs Out; steps = first_steps a.algorithm.promises procs }
+    record { world = first_world a procs limit; phases = replicate procs Out; steps = first_steps a.algorithm.step_bounds procs }
 
 -- the same world and its monitor at their beginning
 abbrev pub monitor_at_beginning : MonitorState → MonitorState
@@ -60,7 +60,7 @@ section_in w phase p = section_at w.algorithm.entries phase (place_in (process_o
 
 -- the bound on the own steps of p in the section that it is in, where the text promises one
 abbrev pub step_bound : MonitorState → ℕ → Option StepBound
-step_bound m p = bound_if m.world.algorithm.promises (section_in m.world (phase_of m p) p)
+step_bound m p = bound_if (promised_steps m.world) (section_in m.world (phase_of m p) p)
 
 -- the section in which the next step of p is the first above the bound
 abbrev pub excess_of : MonitorState → ℕ → Option BoundedSection

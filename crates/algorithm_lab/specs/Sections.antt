@@ -10,9 +10,10 @@ use Rattle.rmecore.specs.declared.fault.Fault.TheVariants.{LongExit, LongRecover
 use Rattle.rmecore.specs.declared.phase.Phase.{Phase}
 use Rattle.rmecore.specs.declared.phase.Phase.TheVariants.{Out, Door, Ready, Inside, DeadIn}
 use Rattle.algorithms.specs.declared.algorithm.Entries.{Entries}
-use Rattle.algorithms.specs.declared.algorithm.Promises.{Promises}
+use Rattle.algorithms.specs.declared.algorithm.StepBounds.{StepBounds}
 use Rattle.algorithms.specs.declared.process.AlgorithmPlace.{AlgorithmPlace}
 use Rattle.algorithms.specs.declared.process.AlgorithmPlace.TheVariants.{Rest, Dead, At}
+use Rattle.algorithms.specs.declared.promised_steps.PromisedSteps.{PromisedSteps}
 use Rattle.algorithm_lab.specs.declared.section.BoundedSection.{BoundedSection}
 use Rattle.algorithm_lab.specs.declared.section.BoundedSection.TheVariants.{Exit, Recovery, Doorway}
 use Rattle.algorithm_lab.specs.declared.section.StepBound.{StepBound}
@@ -54,25 +55,25 @@ section_at entries phase (At at) = section_of_line entries phase at
 -- ---- what is promised
 
 -- the text bounds the own steps of a section
-abbrev pub bounds_steps : Promises → Bool
-bounds_steps promises = is_some promises.exit || (is_some promises.recovery || is_some promises.doorway)
+abbrev pub bounds_steps : StepBounds → Bool
+bounds_steps bounds = is_some bounds.exit || (is_some bounds.recovery || is_some bounds.doorway)
 
-abbrev pub promised_bound : Promises → BoundedSection → Option ℕ
-promised_bound promises Exit = promises.exit
-promised_bound promises Recovery = promises.recovery
-promised_bound promises Doorway = promises.doorway
+abbrev pub promised_bound : PromisedSteps → BoundedSection → Option ℕ
+promised_bound promised Exit = promised.exit
+promised_bound promised Recovery = promised.recovery
+promised_bound promised Doorway = promised.doorway
 
 abbrev pub bound_with : BoundedSection → ℕ → StepBound
 bound_with section most = record { section = section; most = most }
 
 -- a section with its bound, where one is promised
-abbrev pub bound_on : Promises → BoundedSection → Option StepBound
-bound_on promises section = option_map (bound_with section) (promised_bound promises section)
+abbrev pub bound_on : PromisedSteps → BoundedSection → Option StepBound
+bound_on promised section = option_map (bound_with section) (promised_bound promised section)
 
 -- the same of a process that may be in no section
-abbrev pub bound_if : Promises → Option BoundedSection → Option StepBound
-bound_if promises None = None
-bound_if promises (Some section) = bound_on promises section
+abbrev pub bound_if : PromisedSteps → Option BoundedSection → Option StepBound
+bound_if promised None = None
+bound_if promised (Some section) = bound_on promised section
 
 -- what is wrong where more own steps are taken than is promised
 abbrev pub excess_fault : BoundedSection → Fault

@@ -100,7 +100,7 @@ pub fn the_text_is_never_found_out()
 
 /// A text that promises no bound on own steps, and claims that nothing never holds, is judged by its deeds alone, on every schedule.
 pub fn without_bounds_only_deeds_count()
-    ensures { (a : InitializedOf) (n limit : ℕ) (lines : List LineOf) → bounds_steps a.algorithm.promises ≡ false
+    ensures { (a : InitializedOf) (n limit : ℕ) (lines : List LineOf) → bounds_steps a.algorithm.step_bounds ≡ false
         → a.algorithm.claims.items ≡ [] → verdict_of a.algorithm n (run_of a n limit lines).reports
         ≡ verdict_on (first_judge a.algorithm n) (deeds_of (run_of a n limit lines).reports) }
 {}

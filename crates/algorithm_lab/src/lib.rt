@@ -3,6 +3,7 @@
 //! Main items: `Monitor`, `replay_algorithm`, `laws`.
 #![tactic(auto)]
 
+mod call_rules;
 mod claims;
 pub mod heard;
 pub mod laws;

@@ -3,7 +3,7 @@
 ghost use Rattle.std.specs.Prelude.{◌≡◌};
 ghost use Rattle.algorithm_lab.specs.Sections.{begins_between, promised_bound, bound_on, excess, excess_fault, is_still_in, bounds_steps, is_in_call, section_at, section_of_line, section_of_lock, steps_after, one_step_more};
 
-use algorithms::{AlgorithmPlace, Entries, Promises};
+use algorithms::{AlgorithmPlace, Entries, PromisedSteps, StepBounds};
 use rmecore::{Fault, Phase};
 
 /// A section of a process whose own steps a text may bound.
@@ -50,28 +50,28 @@ fn is_still_in(section: BoundedSection, now: Option<BoundedSection>) -> bool
 }
 
 /// Whether a text bounds the own steps of a section.
-pub(crate) fn bounds_steps(promises: Promises) -> bool
-    ensures { result ≡ bounds_steps promises }
+pub(crate) fn bounds_steps(bounds: &StepBounds) -> bool
+    ensures { result ≡ bounds_steps bounds.now }
 {
-    promises.exit.is_some() || (promises.recovery.is_some() || promises.doorway.is_some())
+    bounds.exit.is_some() || (bounds.recovery.is_some() || bounds.doorway.is_some())
 }
 
 /// The bound on the own steps of a section, where the text promises one.
-fn promised_bound(promises: Promises, section: BoundedSection) -> Option<u64>
-    ensures { result ≡ promised_bound promises section }
+fn promised_bound(promised: PromisedSteps, section: BoundedSection) -> Option<u64>
+    ensures { result ≡ promised_bound promised section }
 {
     match section {
-        BoundedSection::Exit => promises.exit,
-        BoundedSection::Recovery => promises.recovery,
-        BoundedSection::Doorway => promises.doorway,
+        BoundedSection::Exit => promised.exit,
+        BoundedSection::Recovery => promised.recovery,
+        BoundedSection::Doorway => promised.doorway,
     }
 }
 
 /// A section with its bound, where the text promises one.
-pub(crate) fn bound_on(promises: Promises, section: BoundedSection) -> Option<StepBound>
-    ensures { result ≡ bound_on promises section }
+pub(crate) fn bound_on(promised: PromisedSteps, section: BoundedSection) -> Option<StepBound>
+    ensures { result ≡ bound_on promised section }
 {
-    let most = promised_bound(promises, section)?;
+    let most = promised_bound(promised, section)?;
     Some(StepBound { section, most })
 }
 

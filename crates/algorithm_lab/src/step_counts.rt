@@ -4,7 +4,7 @@ ghost use Rattle.std.specs.Prelude.{◌≡◌, IfOk, IfErr, length, replicate};
 ghost use Rattle.algorithm_lab.specs.Monitors.{first_steps};
 
 use crate::section::bounds_steps;
-use algorithms::{AlgorithmRefusal, Promises};
+use algorithms::{AlgorithmRefusal, StepBounds};
 use std::alloc::Global;
 
 /// As many counts of own steps as are asked for, each of none.
@@ -20,13 +20,13 @@ pub(crate) fn no_steps(alloc: Global, count: usize) -> Result<Vec<u64>, Algorith
 /// The own steps that are counted at the beginning: none of each process, where the text bounds them.
 pub(crate) fn first_steps(
     alloc: Global,
-    promises: Promises,
+    bounds: &StepBounds,
     count: usize,
 ) -> Result<Vec<u64>, AlgorithmRefusal>
-    ensures steps { IfOk result (λ steps. steps.items ≡ first_steps promises count) }
+    ensures steps { IfOk result (λ steps. steps.items ≡ first_steps bounds.now count) }
     ensures memory { IfErr result (λ e. e ≡ AlgorithmRefusal.OutOfMemory) }
 {
-    if bounds_steps(promises) {
+    if bounds_steps(bounds) {
         no_steps(alloc, count)
     } else {
         Ok(Vec::new(alloc))

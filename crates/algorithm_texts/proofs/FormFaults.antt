@@ -3,7 +3,6 @@ use Rattle.std.proofs.Common.{◌≡◌, ℕ, suc, ◌+◌, ◌<◌, List, ◌�
 use Rattle.std.specs.Option.{option_map}
 use Rattle.std.proofs.lemmas.Option.{slice_get-map}
 use Rattle.algorithms.specs.Faults.{fault_of}
-use Rattle.algorithms.specs.declared.algorithm.Promises.{Promises}
 use Rattle.algorithms.specs.declared.fault.AlgorithmFault.{AlgorithmFault}
 use Rattle.algorithms.specs.declared.fault.ReadFault.{ReadFault}
 use Rattle.algorithms.specs.declared.fault.ReadFault.TheVariants.{NoHeader}
@@ -11,7 +10,7 @@ use Rattle.algorithm_texts.specs.declared.filled.Filled.{Filled}
 use Rattle.algorithm_texts.specs.Drafts.{Drafted}
 use Rattle.algorithm_texts.specs.Operands.{RefusesAs}
 use Rattle.algorithm_texts.specs.LineFaults.{head_fault, line_fault, promises_fault}
-use Rattle.algorithm_texts.specs.TextDrafts.{read_head, read_line, read_promises, empty_draft, with_number}
+use Rattle.algorithm_texts.specs.TextDrafts.{PromisesSaid, read_head, read_line, read_promises, empty_draft, with_number}
 use Rattle.algorithm_texts.specs.TextFaults.{OrMemory, StopsOnLine, BeginsDraft, IsFaultOfForms, IsFaultOfHead, IsFaultOfSecond}
 use Rattle.algorithm_texts.specs.TextLines.{second_said, spoken_of}
 use Rattle.algorithm_texts.proofs.TextBeginnings.{second_line}
@@ -84,7 +83,7 @@ head_then lines first head fault e says (inl m) = inl m
 head_then lines first head fault e says (inr h) =
     inr (subst (λ o. IsFaultOfHead o (slice_get (map spoken_of lines) 1) fault) (sym (at_first lines 0 first e)) (inr (head, says, h)))
 
-pub draft_begins : (lines : List Filled) (first : Filled) (h : List ℕ × ℕ × ℕ) (p : Promises) (number : ℕ) (d : Drafted) → slice_get lines 0 ≡ Some first
+pub draft_begins : (lines : List Filled) (first : Filled) (h : List ℕ × ℕ × ℕ) (p : PromisesSaid) (number : ℕ) (d : Drafted) → slice_get lines 0 ≡ Some first
     → read_head first.tokens.all.items ≡ Some h → second_said (slice_get lines 1) ≡ Some (p, number) → d ≡ empty_draft h p number → BeginsDraft (map spoken_of lines) d
 draft_begins lines first h p number d e f g k =
     let s = second_line (slice_get lines 1) p number g in

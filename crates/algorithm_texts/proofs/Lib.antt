@@ -39,3 +39,5 @@ pub mod FormFaults
 pub mod SameAlgorithms
 pub mod SameItems
 pub mod PromiseLists
+pub mod TokenPlaces
+pub mod OpenBlocks

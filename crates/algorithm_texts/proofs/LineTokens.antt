@@ -78,15 +78,15 @@ run_whole kind bs h = nowhere_at kind bs (ltb (position_or_len (λ c. not (kind 
 -- ---- one token after the other
 
 -- what comes depends on the bytes after the spaces alone
-same_after : (a b : List ℕ) (ts : List Token) (end : Result (List ℕ) ReadFault) → without_front_spaces a ≡ without_front_spaces b → Scans a ts end → Scans b ts end
+pub same_after : (a b : List ℕ) (ts : List Token) (end : Result (List ℕ) ReadFault) → without_front_spaces a ≡ without_front_spaces b → Scans a ts end → Scans b ts end
 same_after a b [] end e h = subst (λ u. EndsTokens u end) e h
 same_after a b (t ∷ ts) end e h =
     subst (λ u. (size : ℕ) × (first_token u ≡ Ok (t, size)) × (((t ≢ done_word) × Scans (drop size u) ts end) ⊎ ((t ≡ done_word) × (ts ≡ []) × (end ≡ Ok (drop size u))))) e h
 
-spaced : (b : ℕ) (bs : List ℕ) → b ≡ 32 → without_front_spaces (b ∷ bs) ≡ without_front_spaces bs
+pub spaced : (b : ℕ) (bs : List ℕ) → b ≡ 32 → without_front_spaces (b ∷ bs) ≡ without_front_spaces bs
 spaced b bs e = rw e refl
 
-not_spaced : (b : ℕ) (bs : List ℕ) → b ≢ 32 → without_front_spaces (b ∷ bs) ≡ b ∷ bs
+pub not_spaced : (b : ℕ) (bs : List ℕ) → b ≢ 32 → without_front_spaces (b ∷ bs) ≡ b ∷ bs
 not_spaced b bs e = rw (ne_eqb b 32 e) refl
 
 no_bytes : (bs : List ℕ) → length bs ≡ 0 → bs ≡ []

@@ -10,8 +10,9 @@ use Rattle.algorithm_texts.specs.declared.lines.CallRead.{CallRead}
 use Rattle.algorithm_texts.specs.Drafts.{Drafted}
 use Rattle.algorithm_texts.specs.FinishedDrafts.{is_in, is_within}
 use Rattle.algorithm_texts.specs.Marks.{MarksReached, ReadsMarked, SeenMarked}
-use Rattle.algorithm_texts.specs.Runs.{LineReachedAt, NamesSetAt, StepFirstAt, ReadsUnset, IsReachedWithout, IsReachedSilently, is_own, is_seen}
+use Rattle.algorithm_texts.specs.Runs.{EachIsReached, LineReachedAt, NamesSetAt, StepFirstAt, ReadsUnset, IsReachedWithout, IsReachedSilently, is_own, is_seen}
 use Rattle.algorithm_texts.specs.TextFaults.{OrMemory, IsFaultAtFirst, number_at}
+use Rattle.algorithm_texts.specs.TextLines.{IsRefusalOf}
 use Rattle.algorithm_texts.specs.Usage.{reads, uses, passes_at}
 use Rattle.algorithm_texts.proofs.RunChecks.{passes_line_at, within_at}
 use Rattle.algorithm_texts.proofs.RunMarks.{both_true, below_next}
@@ -59,6 +60,9 @@ unreached d call marks place fault reaches from inside own unmarked before named
   };
   named = named;
 }
+
+pub unreached_refused : (d : Drafted) (call : CallRead) (fault : AlgorithmFault) → IsFaultAtFirst d.lines NeverReached (LineReachedAt d call) fault → IsRefusalOf fault (EachIsReached d call)
+unreached_refused d call fault first = inr (λ all. first.first.fails (all first.at))
 
 -- ---- names
 

@@ -2,26 +2,25 @@
 use Rattle.std.proofs.Common.{◌≡◌, ℕ, List, map, drop, Option, Some, None, slice_get, refl, sym, ap, ◌∙◌, subst, inl, inr}
 use Rattle.std.proofs.lemmas.Option.{slice_get-map, same_Some, none-some}
 use Rattle.std.specs.Option.{option_map}
-use Rattle.algorithms.specs.declared.algorithm.Promises.{Promises}
 use Rattle.algorithms.specs.declared.fault.AlgorithmFault.{AlgorithmFault}
 use Rattle.algorithm_texts.specs.declared.filled.Filled.{Filled}
 use Rattle.algorithm_texts.specs.Parts.{◌>>=◌}
 use Rattle.algorithm_texts.specs.Drafts.{Drafted}
-use Rattle.algorithm_texts.specs.TextDrafts.{Spoken, empty_draft, read_head, read_promises, read_lines, read_text}
+use Rattle.algorithm_texts.specs.TextDrafts.{PromisesSaid, Spoken, empty_draft, read_head, read_promises, read_lines, read_text}
 use Rattle.algorithm_texts.specs.TextLines.{second_said, spoken_of, RefusesLines}
 use Rattle.algorithm_texts.proofs.BlockTrees.{some_of}
 use Rattle.algorithm_texts.proofs.Sound.{some_same}
 
-pub second_line : (o : Option Filled) (p : Promises) (number : ℕ) → second_said o ≡ Some (p, number)
+pub second_line : (o : Option Filled) (p : PromisesSaid) (number : ℕ) → second_said o ≡ Some (p, number)
     → (line : Filled) × (o ≡ Some line) × (read_promises line.tokens.all.items ≡ Some p) × (line.number ≡ number)
 second_line None p number e = absurd (cc)
 second_line (Some line) p number e =
     let x = some_of (read_promises line.tokens.all.items) (λ q. Some (q, line.number)) (p, number) e in
-    let same = some_same {A = Promises × ℕ} (x.0, line.number) (p, number) x.2 in
-    (line, refl, x.1 ∙ ap (λ (r : Promises × ℕ). Some r.0) same, ap (λ (r : Promises × ℕ). r.1) same)
+    let same = some_same {A = PromisesSaid × ℕ} (x.0, line.number) (p, number) x.2 in
+    (line, refl, x.1 ∙ ap (λ (r : PromisesSaid × ℕ). Some r.0) same, ap (λ (r : PromisesSaid × ℕ). r.1) same)
 
 -- the lines after the first two make the rest of the draft
-pub text_begun : (lines : List Filled) (first : Filled) (h : List ℕ × ℕ × ℕ) (p : Promises) (number : ℕ) (d : Drafted) → slice_get lines 0 ≡ Some first
+pub text_begun : (lines : List Filled) (first : Filled) (h : List ℕ × ℕ × ℕ) (p : PromisesSaid) (number : ℕ) (d : Drafted) → slice_get lines 0 ≡ Some first
     → read_head first.tokens.all.items ≡ Some h → second_said (slice_get lines 1) ≡ Some (p, number) → d ≡ empty_draft h p number
     → read_text (map spoken_of lines) ≡ read_lines d (drop 2 (map spoken_of lines))
 text_begun lines first h p number d e f g k =
@@ -61,16 +60,16 @@ pub head_refuses : (lines : List Filled) (first : Filled) (fault : AlgorithmFaul
 head_refuses lines first fault e (inl h) = inl h
 head_refuses lines first fault e (inr h) = inr (no_head lines first e h)
 
-said_none : (o : Option Promises) (number : ℕ) → ◌>>=◌ {B = Promises × ℕ} o (λ p. Some (p, number)) ≡ None → o ≡ None
+said_none : (o : Option PromisesSaid) (number : ℕ) → ◌>>=◌ {B = PromisesSaid × ℕ} o (λ p. Some (p, number)) ≡ None → o ≡ None
 said_none None number e = refl
-said_none (Some p) number e = let pair : Promises × ℕ = (p, number) in absurd (none-some pair (sym e))
+said_none (Some p) number e = let pair : PromisesSaid × ℕ = (p, number) in absurd (none-some pair (sym e))
 
 second_none : (o : Option Filled) (b : Spoken) → second_said o ≡ None → option_map spoken_of o ≡ Some b → read_promises b.tokens ≡ None
 second_none None b e f = absurd (none-some b f)
 second_none (Some line) b e f =
     subst (λ x. read_promises x.tokens ≡ None) (same_Some (spoken_of line) b f) (said_none (read_promises line.tokens.all.items) line.number e)
 
-pub no_promises : (lines : List Filled) (first : Filled) → slice_get lines 0 ≡ Some first → second_said (slice_get lines 1) ≡ None → read_text (map spoken_of lines) ≡ None
+no_promises : (lines : List Filled) (first : Filled) → slice_get lines 0 ≡ Some first → second_said (slice_get lines 1) ≡ None → read_text (map spoken_of lines) ≡ None
 no_promises lines first e h =
     let rest = drop 2 (map spoken_of lines) in
     ap (λ o. o >>= (λ a. slice_get (map spoken_of lines) 1 >>= (λ b. read_head a.tokens >>= (λ head. read_promises b.tokens >>= (λ q. read_lines (empty_draft head q b.number) rest)))))
@@ -78,3 +77,13 @@ no_promises lines first e h =
     ∙ no_bind (slice_get (map spoken_of lines) 1) (λ b. read_head first.tokens.all.items >>= (λ head. read_promises b.tokens >>= (λ q. read_lines (empty_draft head q b.number) rest)))
     (λ b f. no_bind (read_head first.tokens.all.items) (λ head. read_promises b.tokens >>= (λ q. read_lines (empty_draft head q b.number) rest))
     (λ head g. ap (λ o. o >>= (λ q. read_lines (empty_draft head q b.number) rest)) (second_none (slice_get lines 1) b h (sym (slice_get-map spoken_of lines 1) ∙ f))))
+
+pub promises_refuse : (lines : List Filled) (first : Filled) (fault : AlgorithmFault) → slice_get lines 0 ≡ Some first → RefusesLines fault (second_said (slice_get lines 1))
+    → RefusesLines fault (read_text (map spoken_of lines))
+promises_refuse lines first fault e (inl h) = inl h
+promises_refuse lines first fault e (inr h) = inr (no_promises lines first e h)
+
+-- a second line without promises says nothing
+pub says_nothing : (line : Filled) (fault : AlgorithmFault) → RefusesLines fault (read_promises line.tokens.all.items) → RefusesLines fault (second_said (Some line))
+says_nothing line fault (inl h) = inl h
+says_nothing line fault (inr h) = inr (ap (λ o. ◌>>=◌ {B = PromisesSaid × ℕ} o (λ p. Some (p, line.number))) h)

@@ -7,6 +7,7 @@ use Rattle.algorithms.specs.declared.algorithm.Entries.{Entries}
 use Rattle.algorithms.specs.declared.algorithm.Extent.{Extent}
 use Rattle.algorithms.specs.declared.algorithm.Extent.TheVariants.{One, Each, Array, Table}
 use Rattle.algorithms.specs.declared.algorithm.Promises.{Promises}
+use Rattle.algorithms.specs.declared.algorithm.StepBounds.{StepBounds}
 use Rattle.algorithms.specs.declared.expression.Expression.{Expression}
 use Rattle.algorithms.specs.declared.line.AccessLine.{AccessLine}
 use Rattle.algorithms.specs.declared.line.Action.{Action}
@@ -197,12 +198,26 @@ claims_of a = map claim_form a.claims.items
 abbrev pub start_term : Option Expression → Option Term
 start_term start = option_map (λ v. term_of v) start
 
+-- the bounds on own steps, where they are said
+pub record StepTerms : Type 0 where
+  pub exit : Option Term
+  pub recovery : Option Term
+  pub doorway : Option Term
+
+abbrev pub step_terms : StepBounds → StepTerms
+step_terms b = record {
+  exit = option_map (λ v. term_of v) b.exit;
+  recovery = option_map (λ v. term_of v) b.recovery;
+  doorway = option_map (λ v. term_of v) b.doorway;
+}
+
 -- what the lines of a call leave alone
 pub record DraftHead : Type 0 where
   pub name : List ℕ
   pub least : ℕ
   pub most : ℕ
   pub promises : Promises
+  pub step_bounds : StepTerms
   pub constants : List (List ℕ × Term)
   pub rows : List DraftRow
   pub bounds : List (Option Term)
@@ -215,6 +230,7 @@ head_of a = record {
   least = a.least;
   most = a.most;
   promises = a.promises;
+  step_bounds = step_terms a.step_bounds;
   constants = named_constants a;
   rows = rows_of a;
   bounds = map (λ d. option_map (λ b. term_of b) d.bound) a.declarations.items;

@@ -10,6 +10,7 @@ pub mod LineParts
 pub mod LineDrafts
 pub mod NewNames
 pub mod NeverClaims
+pub mod PromiseLines
 pub mod TextDrafts
 pub mod TextLines
 pub mod FinishedDrafts
@@ -23,6 +24,9 @@ pub mod Blocks
 pub mod Programs
 pub mod Sayings
 pub mod TextFaults
+pub mod TokenPlaces
+pub mod IndexCounts
+pub mod FaultDetails
 pub mod PartFaults
 pub mod LineFaults
 pub mod Likeness

@@ -7,7 +7,7 @@ use Rattle.algorithms.specs.declared.algorithm.NamedConstant.{NamedConstant}
 use Rattle.algorithms.specs.declared.first_values.InitializedAlgorithm.{InitializedAlgorithm}
 use Rattle.algorithm_texts.specs.Parts.{Term, term_of}
 use Rattle.algorithm_texts.specs.Operands.{names_of, declared_of}
-use Rattle.algorithm_texts.specs.Drafts.{head_of, extent_of, extents_of, answers_of, claims_of, lines_of}
+use Rattle.algorithm_texts.specs.Drafts.{head_of, extent_of, extents_of, answers_of, claims_of, lines_of, step_terms}
 use Rattle.algorithm_texts.specs.UnreachedLines.{starts_in}
 use Rattle.algorithm_texts.specs.Programs.{SpellsAlgorithm}
 
@@ -38,6 +38,7 @@ pub record AreTitledAlike (a b : Algorithm) : Type 0 where
   pub least : a.least ≡ b.least
   pub most : a.most ≡ b.most
   pub promises : a.promises ≡ b.promises
+  pub step_bounds : step_terms a.step_bounds ≡ step_terms b.step_bounds
 
 -- all before the calls is the same, but for private names and first values
 pub record AreHeadedAlike (a b : Algorithm) : Type 0 where

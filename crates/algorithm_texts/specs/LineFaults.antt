@@ -1,5 +1,5 @@
 -- The fault of a line that has no form. A line is read from the left: the first part that is not what is expected there decides.
-use Rattle.std.specs.Prelude.{ℕ, ◌+◌, ◌==◌, nat_lt, nat_le, Bool, false, ◌&&◌, ◌||◌, List, [], ◌∷◌, length, take, drop, slice_get, Option, Some, None, if◌then◌else◌, codes}
+use Rattle.std.specs.Prelude.{ℕ, ◌+◌, ◌==◌, nat_lt, nat_le, Bool, false, ◌&&◌, ◌||◌, List, [], ◌∷◌, length, take, drop, slice_get, Option, Some, None, is_some, if◌then◌else◌, codes}
 use Rattle.std.specs.List.{list_any}
 use Rattle.algorithms.specs.declared.condition.Comparison.TheVariants.{Equal}
 use Rattle.algorithms.specs.declared.fault.ReadFault.{ReadFault}
@@ -15,6 +15,7 @@ use Rattle.algorithm_texts.specs.Fronts.{is_me, is_the_word, is_the_sign, letter
 use Rattle.algorithm_texts.specs.Drafts.{Drafted}
 use Rattle.algorithm_texts.specs.LineDrafts.{scope_in, new_name, name_set, index_in, with_names, read_value, read_condition, read_word, read_until, read_swap_value, begins_swap, begins_word, begins_access, read_brackets, is_no_word, read_test, is_looping, first_size, down_at_front, read_members}
 use Rattle.algorithm_texts.specs.NeverClaims.{FactsRead, begins_test, first_name, no_facts, phase_words, read_facts, read_processes, read_value_fact, with_token, without_rows}
+use Rattle.algorithm_texts.specs.PromiseLines.{PromisesSaid, empty_scope, first_promises, promise_at_front, promise_parts, read_most_inside, with_promise}
 use Rattle.algorithm_texts.specs.TextDrafts.{call_words, undeclared_name, is_bound, atoms, owner_tokens, bound_size, read_bound, read_bound_and_start, size_before_home, read_size, read_extent, is_array, end_call, read_head_words}
 pub use Rattle.algorithm_texts.specs.PartFaults.{fault_from, new_word_fault, new_name_fault, set_word_fault, name_set_fault, name_read_fault, undeclared_name_fault, begun_fault, headed_fault, rowed_fault, index_fault, followed_fault, token_fault, run_fault, value_fault, brackets_fault, two_indexes_fault, read_index_fault, word_of_fault, named_word_fault, shared_word_fault, value_after_fault, until_fault}
 
@@ -396,6 +397,45 @@ line_fault d tokens last =
 abbrev pub head_fault : List Token → ReadFault
 head_fault tokens = fault_from (read_head_words tokens) NoHeader (λ h. TooBig)
 
+-- of the value of a bound on own steps: the value, or what is not of numbers, `procs` and `limit` alone
+abbrev pub step_bound_fault : List Token → ReadFault
+step_bound_fault tokens = fault_from (read_value empty_scope [] (value_tokens tokens)) (value_fault empty_scope [] (value_tokens tokens)) (λ v. BadForm)
+
+abbrev pub within_fault : List Token → ReadFault
+within_fault tokens = fault_from (past_word tokens (codes "within")) BadForm step_bound_fault
+
+-- a bound that is there already comes before another one
+abbrev pub new_bound_fault : Option Term → List Token → ReadFault
+new_bound_fault before tokens = if is_some before then BadForm else within_fault tokens
+
+abbrev pub doorway_fault : PromisesSaid → List Token → ReadFault
+doorway_fault p tokens = if p.promises.order then new_bound_fault p.step_bounds.doorway tokens else BadForm
+
+abbrev pub promise_fault : PromisesSaid → List Token → ReadFault
+promise_fault p tokens =
+    if is_the_word (slice_get tokens 0) (codes "exit") then new_bound_fault p.step_bounds.exit (drop 1 tokens)
+    else if is_the_word (slice_get tokens 0) (codes "recovery") then new_bound_fault p.step_bounds.recovery (drop 1 tokens)
+    else if is_the_word (slice_get tokens 0) (codes "doorway") then doorway_fault p (drop 1 tokens)
+    else BadForm
+
+-- of the first part that is no promise
+abbrev pub promises_list_fault : PromisesSaid → List (List Token) → ReadFault
+promises_list_fault p [] = BadForm
+promises_list_fault p (part ∷ parts) = fault_from (with_promise p part) (promise_fault p part) (λ q. promises_list_fault q parts)
+
+abbrev pub more_fault : PromisesSaid → List Token → ReadFault
+more_fault p tokens =
+    if is_over tokens then BadForm else fault_from (past_sign tokens Comma) BadForm (λ rest. promises_list_fault p (promise_parts rest))
+
+abbrev pub further_promises_fault : ℕ → List Token → ReadFault
+further_promises_fault most_inside tokens =
+    let reentry = promise_at_front tokens (codes "reentry") in
+    let order = promise_at_front reentry.1 (codes "order") in
+    more_fault (first_promises most_inside reentry.0 order.0) order.1
+
 -- no promises, or others
 abbrev pub promises_fault : List Token → ReadFault
-promises_fault tokens = fault_from (past_word tokens (codes "promises")) NoHeader (λ rest. BadForm)
+promises_fault tokens =
+    fault_from (past_word tokens (codes "promises")) NoHeader
+    (λ rest. fault_from (past_word rest (codes "exclusion")) BadForm
+    (λ more. fault_from (read_most_inside more) BadForm (λ most. further_promises_fault most.0 most.1)))

@@ -1,8 +1,7 @@
 -- Reading the parts of a line from the left: values, names, and shared words with their indexes.
-use Rattle.std.specs.Prelude.{◌≡◌, ℕ, ◌+◌, Bool, false, not, ◌&&◌, ◌||◌, List, [], ◌∷◌, ◌++◌, drop, slice_get, Option, Some, None, Result, Ok, Err, if◌then◌else◌, codes, bytes_eq, position}
+use Rattle.std.specs.Prelude.{◌≡◌, ℕ, Bool, false, not, ◌&&◌, ◌||◌, List, [], ◌∷◌, ◌++◌, drop, slice_get, Option, Some, None, Result, Ok, Err, if◌then◌else◌, codes, bytes_eq, position}
 use Rattle.algorithms.specs.declared.expression.Operator.TheVariants.{Sum, Product, Within}
 use Rattle.algorithms.specs.declared.fault.ReadFault.{ReadFault}
-use Rattle.algorithm_texts.specs.declared.lines.Block.TheVariants.{Else}
 use Rattle.algorithm_texts.specs.declared.tokens.Sign.TheVariants.{OpenIndex, CloseIndex}
 use Rattle.algorithm_texts.specs.declared.tokens.Token.{Token}
 use Rattle.algorithm_texts.specs.declared.tokens.Token.TheVariants.{Number, Word, Sign}

@@ -17,7 +17,7 @@ use Rattle.algorithm_texts.specs.Parts.{Formula, ◌>>=◌}
 use Rattle.algorithm_texts.specs.Grammar.{Scope, is_among}
 use Rattle.algorithm_texts.specs.Fronts.{is_me, is_the_word, is_the_sign, letters_of, named_by, past_sign, value_if}
 use Rattle.algorithm_texts.specs.Operands.{RefusesAs}
-use Rattle.algorithm_texts.specs.Drafts.{Drafted, ClaimForm, FactForm, OfWord, OfPhase, OfPlace, LineForm, Accessing, PlacedLine, fact_form}
+use Rattle.algorithm_texts.specs.Drafts.{Drafted, FactForm, OfWord, OfPhase, OfPlace, LineForm, Accessing, PlacedLine, fact_form}
 use Rattle.algorithm_texts.specs.LineDrafts.{new_name, read_condition, read_word, scope_in, with_names}
 use Rattle.algorithm_texts.specs.NewNames.{undeclared_name}
 

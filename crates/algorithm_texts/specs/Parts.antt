@@ -1,5 +1,5 @@
 -- Values and conditions without their memory, and what joins them.
-use Rattle.std.specs.Prelude.{ℕ, Option, Some, None, option_and_then}
+use Rattle.std.specs.Prelude.{ℕ, Bool, true, false, ◌&&◌, Option, Some, None, option_and_then}
 use Rattle.algorithms.specs.declared.condition.Comparison.{Comparison}
 use Rattle.algorithms.specs.declared.condition.Condition.{Condition as ConditionOf, Compare as CompareOf, ComparePairs as ComparePairsOf, And' as AndOf, Or' as OrOf, Not' as NotOf}
 use Rattle.algorithms.specs.declared.expression.Expression.{Expression as ValueOf, Number as NumberOf, Private as PrivateOf, Element' as ElementOf, Me as MeOf, Procs as ProcsOf, Limit as LimitOf, Joined' as JoinedOf}
@@ -131,3 +131,15 @@ enclosed_two Plain first second = pair_of_parts first second
 enclosed_two Not first second = None
 enclosed_two Max first second = operation_of Maximum first second
 enclosed_two Min first second = operation_of Minimum first second
+
+-- ---- values of numbers and sizes
+
+-- a value of numbers, `procs` and `limit` alone
+abbrev pub is_bound : Term → Bool
+is_bound (Number n) = true
+is_bound (Private k) = false
+is_bound (Element row i) = false
+is_bound Me = false
+is_bound Procs = true
+is_bound Limit = true
+is_bound (Joined o a b) = is_bound a && is_bound b

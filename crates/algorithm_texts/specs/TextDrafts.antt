@@ -1,17 +1,14 @@
 -- Reading the lines of a text from the left: what each of them makes of a draft, or None where it is refused.
 use Rattle.std.specs.Prelude.{◌≡◌, string_bytes, ℕ, ◌+◌, ◌==◌, nat_eq, nat_lt, nat_le, Bool, true, false, not, ◌&&◌, ◌||◌, List, [], ◌∷◌, ◌++◌, length, map, take, drop, slice_get, Option, Some, None, is_some, if◌then◌else◌, codes}
-use Rattle.std.specs.List.{prefix_len, list_any, slice_split}
+use Rattle.std.specs.List.{prefix_len, list_any}
 use Rattle.algorithms.specs.declared.algorithm.Algorithm.{Algorithm}
 use Rattle.algorithms.specs.declared.algorithm.AlgorithmCall.{AlgorithmCall}
 use Rattle.algorithms.specs.declared.algorithm.AlgorithmCall.TheVariants.{Lock, Unlock, Recover, Withdraw}
-use Rattle.algorithms.specs.declared.algorithm.ProgressPromise.{ProgressPromise}
-use Rattle.algorithms.specs.declared.algorithm.ProgressPromise.TheVariants.{DeadlockFreedom, StarvationFreedom}
-use Rattle.algorithms.specs.declared.algorithm.Promises.{Promises}
 use Rattle.algorithms.specs.declared.condition.Comparison.TheVariants.{Equal}
 use Rattle.algorithms.specs.declared.expression.Operator.TheVariants.{Product}
 use Rattle.algorithm_texts.specs.declared.lines.CallRead.{CallRead}
 use Rattle.algorithm_texts.specs.declared.lines.Opened.{Opened}
-use Rattle.algorithm_texts.specs.declared.tokens.Sign.TheVariants.{Comma, OpenIndex, Comparison}
+use Rattle.algorithm_texts.specs.declared.tokens.Sign.TheVariants.{OpenIndex, Comparison}
 use Rattle.algorithm_texts.specs.declared.tokens.Token.{Token}
 use Rattle.algorithm_texts.specs.declared.tokens.Token.TheVariants.{Word}
 use Rattle.algorithm_texts.specs.Parts.{Term, Number, Private, Element, Me, Procs, Limit, Joined, ◌>>=◌}
@@ -21,6 +18,8 @@ use Rattle.algorithm_texts.specs.Drafts.{Drafted, DraftExtent, OneWord, OfProces
 use Rattle.algorithm_texts.specs.LineDrafts.{read_value, read_brackets, scope_in, new_name, with_names, read_statement}
 use Rattle.algorithm_texts.specs.NeverClaims.{read_never}
 pub use Rattle.algorithm_texts.specs.NewNames.{undeclared_name}
+pub use Rattle.algorithm_texts.specs.Parts.{is_bound}
+pub use Rattle.algorithm_texts.specs.PromiseLines.{PromisesSaid, read_promises}
 
 -- ---- calls
 
@@ -67,16 +66,6 @@ read_call d tokens last = do
   if is_over (drop 1 tokens) then (if has_call call now.calls then None else Some (with_call call now)) else None
 
 -- ---- declarations
-
--- a value of numbers, `procs` and `limit` alone
-abbrev pub is_bound : Term → Bool
-is_bound (Number n) = true
-is_bound (Private k) = false
-is_bound (Element row i) = false
-is_bound Me = false
-is_bound Procs = true
-is_bound Limit = true
-is_bound (Joined o a b) = is_bound a && is_bound b
 
 -- how many numbers and names a value is made of
 abbrev pub atoms : Term → ℕ
@@ -325,102 +314,6 @@ read_head tokens = do
   h ← read_head_words tokens
   if (h.1 == 0) || (nat_lt h.2 h.1 || nat_lt 64 h.2) then None else Some h
 
--- whether a promise comes next, and the tokens after it
-abbrev pub promise_at_front : List Token → List ℕ → Bool × List Token
-promise_at_front tokens word =
-    if is_the_sign (slice_get tokens 0) Comma && is_the_word (slice_get tokens 1) word then (true, drop 2 tokens) else (false, tokens)
-
--- `within NUMBER`, up to the end
-abbrev pub read_within : List Token → Option ℕ
-read_within tokens = do
-  rest ← past_word tokens (codes "within")
-  most ← number_in (slice_get rest 0)
-  value_if (is_over (drop 1 rest)) (Some most)
-
--- a bound on the own steps of a section that has none so far
-abbrev pub new_bound : Option ℕ → List Token → Option ℕ
-new_bound before tokens = if is_some before then None else read_within tokens
-
-abbrev pub with_exit : Promises → List Token → Option Promises
-with_exit p tokens = new_bound p.exit tokens >>= (λ most. Some (record p { exit = Some most }))
-
-abbrev pub with_recovery : Promises → List Token → Option Promises
-with_recovery p tokens = new_bound p.recovery tokens >>= (λ most. Some (record p { recovery = Some most }))
-
--- without order there is no doorway
-abbrev pub with_doorway : Promises → List Token → Option Promises
-with_doorway p tokens = value_if p.order (new_bound p.doorway tokens >>= (λ most. Some (record p { doorway = Some most })))
-
--- `freedom`, up to the end, where no freedom is promised so far
-abbrev pub with_freedom : Promises → ProgressPromise → List Token → Option Promises
-with_freedom p progress tokens = do
-  rest ← past_word tokens (codes "freedom")
-  value_if (is_over rest && not (is_some p.progress)) (Some (record p { progress = Some progress }))
-
-abbrev pub with_bounds : Promises → List Token → Option Promises
-with_bounds p tokens = value_if (is_over tokens && not p.bounds) (Some (record p { bounds = true }))
-
--- one promise more, which is not said so far: `exit`, `recovery` or `doorway` with its bound, `deadlock freedom`, `starvation freedom`,
--- or `bounds`
-abbrev pub with_promise : Promises → List Token → Option Promises
-with_promise p tokens =
-    if is_the_word (slice_get tokens 0) (codes "exit") then with_exit p (drop 1 tokens)
-    else if is_the_word (slice_get tokens 0) (codes "recovery") then with_recovery p (drop 1 tokens)
-    else if is_the_word (slice_get tokens 0) (codes "doorway") then with_doorway p (drop 1 tokens)
-    else if is_the_word (slice_get tokens 0) (codes "deadlock") then with_freedom p DeadlockFreedom (drop 1 tokens)
-    else if is_the_word (slice_get tokens 0) (codes "starvation") then with_freedom p StarvationFreedom (drop 1 tokens)
-    else if is_the_word (slice_get tokens 0) (codes "bounds") then with_bounds p (drop 1 tokens)
-    else None
-
--- each part is one promise more
-abbrev pub with_promises : Promises → List (List Token) → Option Promises
-with_promises p [] = Some p
-with_promises p (part ∷ parts) = with_promise p part >>= (λ q. with_promises q parts)
-
-abbrev pub is_comma : Token → Bool
-is_comma token = is_the_sign (Some token) Comma
-
--- a comma, and the promises between it, further commas and the end of the line
-abbrev pub read_listed : Promises → List Token → Option Promises
-read_listed p tokens = past_sign tokens Comma >>= (λ rest. with_promises p (slice_split is_comma rest))
-
--- the further promises, where there are some, up to the end of the line
-abbrev pub read_more : Promises → List Token → Option Promises
-read_more p tokens = if is_over tokens then Some p else read_listed p tokens
-
--- this many inside at once, re-entry, order or both, and nothing else
-abbrev pub first_promises : ℕ → Bool → Bool → Promises
-first_promises most_inside reentry order = record {
-  most_inside = most_inside;
-  reentry = reentry;
-  order = order;
-  exit = None;
-  recovery = None;
-  doorway = None;
-  progress = None;
-  bounds = false;
-}
-
--- `of K` next, with the most processes inside at once, and the tokens after it. Without it there is one
-abbrev pub read_most_inside : List Token → Option (ℕ × List Token)
-read_most_inside tokens =
-    if is_the_word (slice_get tokens 0) (codes "of") then number_in (slice_get tokens 1) >>= (λ most. Some (most, drop 2 tokens))
-    else Some (1, tokens)
-
--- what follows `exclusion` and the number of processes
-abbrev pub read_further_promises : ℕ → List Token → Option Promises
-read_further_promises most_inside tokens =
-    let reentry = promise_at_front tokens (codes "reentry") in
-    let order = promise_at_front reentry.1 (codes "order") in
-    read_more (first_promises most_inside reentry.0 order.0) order.1
-
-abbrev pub read_promises : List Token → Option Promises
-read_promises tokens = do
-  rest ← past_word tokens (codes "promises")
-  more ← past_word rest (codes "exclusion")
-  most ← read_most_inside more
-  read_further_promises most.0 most.1
-
 -- an algorithm of this name with nothing in it
 pub record IsEmpty (a : Algorithm) (name : List ℕ) (least most : ℕ) : Type 0 where
   pub named : string_bytes a.name ≡ name
@@ -445,13 +338,14 @@ pub record Spoken : Type 0 where
   pub answer : List ℕ
 
 -- a draft with nothing in it, after a line of this number
-abbrev pub empty_draft : List ℕ × ℕ × ℕ → Promises → ℕ → Drafted
-empty_draft head promises number = record {
+abbrev pub empty_draft : List ℕ × ℕ × ℕ → PromisesSaid → ℕ → Drafted
+empty_draft head said number = record {
   head = record {
     name = head.0;
     least = head.1;
     most = head.2;
-    promises = promises;
+    promises = said.promises;
+    step_bounds = said.step_bounds;
     constants = [];
     rows = [];
     bounds = [];

@@ -5,7 +5,6 @@ use Rattle.std.specs.List.{All, find, list_all}
 use Rattle.algorithms.specs.Faults.{fault_of}
 use Rattle.algorithms.specs.declared.algorithm.AlgorithmCall.{AlgorithmCall}
 use Rattle.algorithms.specs.declared.algorithm.AlgorithmCall.TheVariants.{Lock, Unlock, Recover, Withdraw}
-use Rattle.algorithms.specs.declared.algorithm.Promises.{Promises}
 use Rattle.algorithms.specs.declared.fault.AlgorithmFault.{AlgorithmFault}
 use Rattle.algorithms.specs.declared.fault.AlgorithmFault.TheVariants.{OutOfMemory}
 use Rattle.algorithms.specs.declared.fault.ReadFault.{ReadFault}
@@ -21,7 +20,7 @@ use Rattle.algorithm_texts.specs.FinishedDrafts.{is_label_in, is_within, target_
 use Rattle.algorithm_texts.specs.Lawful.{LabelsDiffer, ReadsKnown, SetsFree, LineFitsIn, AllLinesFit, CallsFit, NotesDeed}
 use Rattle.algorithm_texts.specs.LineFaults.{promises_fault, head_fault, line_fault}
 use Rattle.algorithm_texts.specs.NeverClaims.{claimed_places, has_no_place}
-use Rattle.algorithm_texts.specs.TextDrafts.{Spoken, read_head, read_promises, read_line, read_text, empty_draft, end_call, with_number}
+use Rattle.algorithm_texts.specs.TextDrafts.{PromisesSaid, Spoken, read_head, read_promises, read_line, read_text, empty_draft, end_call, with_number}
 use Rattle.algorithm_texts.specs.TextLines.{SaysBefore, SaysUpTo, TextSays, IsFirstFaultyLine, and_line, is_no_feed}
 use Rattle.algorithm_texts.specs.Tokens.{LineSays}
 use Rattle.algorithm_texts.specs.UnreachedLines.{EndUnreached}
@@ -133,7 +132,7 @@ pub record BeginsDraft (spoken : List Spoken) (d : Drafted) : Type 0 where
   pub one : slice_get spoken 0 ≡ Some first
   pub two : slice_get spoken 1 ≡ Some second
   pub head : List ℕ × ℕ × ℕ
-  pub promises : Promises
+  pub promises : PromisesSaid
   pub says_head : read_head first.tokens ≡ Some head
   pub says_promises : read_promises second.tokens ≡ Some promises
   pub is : d ≡ empty_draft head promises second.number

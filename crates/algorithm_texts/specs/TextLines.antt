@@ -1,14 +1,13 @@
 -- The lines of a text: each is ended by a line feed, and says its tokens.
 use Rattle.std.specs.Prelude.{◌≡◌, ◌⊎◌, ℕ, ◌+◌, ◌≤◌, List, [], ◌∷◌, ◌++◌, length, Option, Some, None, Ok, if◌then◌else◌, ◌==◌, Bool, not}
 use Rattle.std.specs.List.{All}
-use Rattle.algorithms.specs.declared.algorithm.Promises.{Promises}
 use Rattle.algorithms.specs.declared.fault.AlgorithmFault.{AlgorithmFault}
 use Rattle.algorithms.specs.declared.fault.AlgorithmFault.TheVariants.{OutOfMemory, At}
 use Rattle.algorithm_texts.specs.declared.tokens.Token.{Token}
 use Rattle.algorithm_texts.specs.declared.filled.Filled.{Filled}
 use Rattle.algorithm_texts.specs.Parts.{◌>>=◌}
 use Rattle.algorithm_texts.specs.Fronts.{is_over}
-use Rattle.algorithm_texts.specs.TextDrafts.{Spoken, read_promises}
+use Rattle.algorithm_texts.specs.TextDrafts.{PromisesSaid, Spoken, read_promises}
 use Rattle.algorithm_texts.specs.Tokens.{LineSays}
 
 -- the bytes of lines, each ended by a line feed
@@ -65,7 +64,7 @@ abbrev pub spoken_of : Filled → Spoken
 spoken_of line = record { number = line.number; tokens = line.tokens.all.items; answer = line.tokens.answer.items }
 
 -- the promises of a second line, and its number
-abbrev pub second_said : Option Filled → Option (Promises × ℕ)
+abbrev pub second_said : Option Filled → Option (PromisesSaid × ℕ)
 second_said None = None
 second_said (Some line) = do
   promises ← read_promises line.tokens.all.items

@@ -17,7 +17,9 @@ use crate::lines::{CallRead, Draft};
 use crate::names::{declare_private, new_name, undeclared_name};
 use crate::parts::{after, after_sign, after_word, check_end, letters, number_at, split_value};
 use crate::tokens::{LineWord, Sign, Token, Tokens, is_sign, is_word, spells};
-use algorithms::algorithm::{Algorithm, AlgorithmCall, Entries, NamedConstant, Promises};
+use algorithms::algorithm::{
+    Algorithm, AlgorithmCall, Entries, NamedConstant, Promises, StepBounds,
+};
 use algorithms::condition::Comparison;
 use algorithms::constants::MOST_PROCS;
 use algorithms::expression::Expression;
@@ -25,7 +27,7 @@ use algorithms::fault::ReadFault;
 use std::alloc::Global;
 
 /// An algorithm of this name with nothing in it.
-fn empty_algorithm(
+pub fn empty_algorithm(
     alloc: Global,
     name: &[u8],
     least: u64,
@@ -43,11 +45,13 @@ fn empty_algorithm(
             most_inside: 1,
             reentry: false,
             order: false,
+            progress: None,
+            bounds: false,
+        },
+        step_bounds: StepBounds {
             exit: None,
             recovery: None,
             doorway: None,
-            progress: None,
-            bounds: false,
         },
         constants: Vec::new(alloc),
         declarations: Vec::new(alloc),

@@ -5,6 +5,7 @@ ghost use Rattle.std.specs.List.{list_all};
 ghost use Rattle.algorithms.specs.Faults.{fault_of};
 ghost use Rattle.algorithms.specs.declared.fault.ReadFault.TheVariants.{TooBig};
 ghost use Rattle.algorithm_texts.specs.Drafts.{Drafted, draft_view};
+ghost use Rattle.algorithm_texts.specs.PromiseLines.{promises_said};
 ghost use Rattle.algorithm_texts.specs.TextLines.{IsRefusalOf, RefusesLines, SaysTokens, TextSays, and_line, is_no_feed, second_said, spoken_of};
 ghost use Rattle.algorithm_texts.specs.TextDrafts.{IsEmpty, Spoken, empty_draft, read_head, read_line, read_lines, read_promises, read_text, with_number};
 ghost use Rattle.algorithm_texts.specs.LineFaults.{head_fault, line_fault, promises_fault};
@@ -14,9 +15,9 @@ ghost use Rattle.algorithm_texts.specs.Tokens.{LineSays};
 use crate::calls::head;
 use crate::filled::Filled;
 use crate::lines::Draft;
-use crate::promises::promises;
+use crate::promises::{SecondLine, promises};
 use crate::tokens::{place_of_byte, tail, tokens_of};
-use algorithms::algorithm::{Algorithm, Promises};
+use algorithms::algorithm::Algorithm;
 use algorithms::fault::{AlgorithmFault, ReadFault};
 use std::alloc::Global;
 
@@ -106,26 +107,30 @@ fn lines_of(alloc: Global, text: &[u8]) -> Result<Vec<Filled>, AlgorithmFault>
 }
 
 /// The promises that the second line says, and its number. `first` is the number of the line before it.
-fn second_line(lines: &[Filled], first: u64) -> Result<(Promises, u64), AlgorithmFault>
-    ensures ok { IfOk result (λ second. second_said (slice_get lines.now 1) ≡ Some (second.0, second.1)) }
-    ensures err { IfErr result (λ fault. second_said (slice_get lines.now 1) ≡ None) }
+fn second_line(
+    alloc: Global,
+    lines: &[Filled],
+    first: u64,
+) -> Result<(SecondLine, u64), AlgorithmFault>
+    ensures ok { IfOk result (λ second. second_said (slice_get lines.now 1) ≡ Some (promises_said second.0, second.1)) }
+    ensures err { IfErr result (λ fault. RefusesLines fault (second_said (slice_get lines.now 1))) }
     ensures first { IfErr result (λ fault. OrMemory fault (IsFaultOfSecond first (slice_get (map spoken_of lines.now) 1) fault)) }
 {
     match lines.get(1) {
         None => Err(ReadFault::NoHeader.at(first)),
-        Some(second) => promises_of(second),
+        Some(second) => promises_of(alloc, second),
     }
 }
 
 /// The promises that a line says, and its number.
-fn promises_of(line: &Filled) -> Result<(Promises, u64), AlgorithmFault>
-    ensures ok { IfOk result (λ second. second_said (Some line.now) ≡ Some (second.0, second.1)) }
-    ensures err { IfErr result (λ fault. second_said (Some line.now) ≡ None) }
+fn promises_of(alloc: Global, line: &Filled) -> Result<(SecondLine, u64), AlgorithmFault>
+    ensures ok { IfOk result (λ second. second_said (Some line.now) ≡ Some (promises_said second.0, second.1)) }
+    ensures err { IfErr result (λ fault. RefusesLines fault (second_said (Some line.now))) }
     ensures at { IfErr result (λ fault. OrMemory fault (StopsOnLine line.now.number (read_promises line.now.tokens.all.items)
         (promises_fault line.now.tokens.all.items) fault)) }
 {
-    match promises(&line.tokens) {
-        Ok(promises) => Ok((promises, line.number)),
+    match promises(alloc, &line.tokens) {
+        Ok(said) => Ok((said, line.number)),
         Err(fault) => Err(fault.at(line.number)),
     }
 }
@@ -144,8 +149,8 @@ fn draft(alloc: Global, lines: &[Filled]) -> Result<Draft, AlgorithmFault>
         None => return Err(ReadFault::NoHeader.at(1)),
     };
     let algorithm = head_of(alloc, first)?;
-    match second_line(lines, first.number) {
-        Ok((promises, number)) => Ok(new_draft(alloc, algorithm, promises, number)),
+    match second_line(alloc, lines, first.number) {
+        Ok((said, number)) => Ok(new_draft(alloc, algorithm, said, number)),
         Err(fault) => {
             drop(algorithm);
             Err(fault)
@@ -168,11 +173,17 @@ fn head_of(alloc: Global, line: &Filled) -> Result<Algorithm, AlgorithmFault>
 }
 
 /// A draft of this algorithm, after the line of this number.
-fn new_draft(alloc: Global, algorithm: Algorithm, promises: Promises, number: u64) -> Draft
-    ensures { (h : List ℕ × ℕ × ℕ) → IsEmpty algorithm h.0 h.1 h.2 → draft_view result ≡ empty_draft h promises number }
+fn new_draft(alloc: Global, algorithm: Algorithm, said: SecondLine, number: u64) -> Draft
+    ensures { (h : List ℕ × ℕ × ℕ) → IsEmpty algorithm h.0 h.1 h.2
+        → draft_view result ≡ empty_draft h (promises_said said) number }
 {
+    let SecondLine {
+        promises,
+        step_bounds,
+    } = said;
     let mut algorithm = algorithm;
     algorithm.promises = promises;
+    algorithm.step_bounds = step_bounds;
     Draft {
         algorithm,
         opened: Vec::new(alloc),

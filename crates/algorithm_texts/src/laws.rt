@@ -6,6 +6,7 @@ ghost use Rattle.algorithm_texts.specs.Sayings.{AreReadAsSaid};
 ghost use Rattle.algorithm_texts.specs.Operands.{SayOnePart};
 ghost use Rattle.algorithm_texts.specs.Programs.{BeginAtZero, SpellOne};
 ghost use Rattle.algorithm_texts.specs.TextFaults.{NamesFirstLine};
+ghost use Rattle.algorithm_texts.specs.TokenPlaces.{AreAtTheirPlaces};
 ghost use Rattle.algorithm_texts.specs.Tokens.{SaysOnce};
 
 /// A line has one list of tokens and one answer, or one first fault.
@@ -47,4 +48,9 @@ pub fn the_first_faulty_line_is_named()
 /// The algorithms that a text spells are the same in all that a text says, the numbers of the lines among it.
 pub fn a_text_spells_one_algorithm()
     ensures { SpellAlike }
+{}
+
+/// The tokens at the places of a line at which its slips are looked for are those that the line says, with the fault at which they end.
+pub fn tokens_are_at_their_places()
+    ensures { AreAtTheirPlaces }
 {}

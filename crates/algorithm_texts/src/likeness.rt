@@ -3,7 +3,7 @@
 ghost use Rattle.std.specs.Prelude.{◌≡◌, ◌↔◌, IsTrue, map, string_bytes};
 ghost use Rattle.std.specs.Option.{option_map};
 ghost use Rattle.algorithm_texts.specs.Parts.{term_of};
-ghost use Rattle.algorithm_texts.specs.Drafts.{access_of, act_of, answers_of, extent_of, form_of, line_of, start_term, word_of};
+ghost use Rattle.algorithm_texts.specs.Drafts.{access_of, act_of, answers_of, extent_of, form_of, line_of, start_term, step_terms, word_of};
 ghost use Rattle.algorithm_texts.specs.Operands.{names_of, row_of};
 ghost use Rattle.algorithm_texts.specs.UnreachedLines.{starts_in};
 ghost use Rattle.algorithm_texts.specs.Likeness.{AreOneAlgorithm, AreDeclaredAlike, AreHeadedAlike, AreOneDeclaration, AreSpelledAlike, AreTitledAlike, named_value, named_values};
@@ -17,7 +17,7 @@ use crate::likeness::local_lines::same_local;
 use crate::likeness::values::{same_condition, same_condition_if, same_value, same_value_if};
 use crate::tokens::spells;
 use algorithms::algorithm::{
-    Algorithm, Declaration, Entries, Extent, NamedConstant, NamedRow, Promises,
+    Algorithm, Declaration, Entries, Extent, NamedConstant, NamedRow, Promises, StepBounds,
 };
 use algorithms::expression::Expression;
 use algorithms::first_values::{FirstValues, InitializedAlgorithm};
@@ -302,19 +302,20 @@ fn same_entries(left: Entries, right: Entries) -> bool
 }
 
 /// Whether two algorithms promise the same bounds on own steps.
-fn same_step_bounds(left: Promises, right: Promises) -> bool
-    ensures { IsTrue result ↔ ((left.exit ≡ right.exit) × (left.recovery ≡ right.recovery) × (left.doorway ≡ right.doorway)) }
+fn same_step_bounds(left: &StepBounds, right: &StepBounds) -> bool
+    ensures { IsTrue result ↔ (step_terms left.now ≡ step_terms right.now) }
 {
-    left.exit == right.exit && (left.recovery == right.recovery && left.doorway == right.doorway)
+    same_value_if(&left.exit, &right.exit)
+        && (same_value_if(&left.recovery, &right.recovery)
+            && same_value_if(&left.doorway, &right.doorway))
 }
 
-/// Whether two algorithms promise the same.
+/// Whether two algorithms promise the same, but for bounds on own steps.
 fn same_promises(left: Promises, right: Promises) -> bool
     ensures { IsTrue result ↔ (left ≡ right) }
 {
     (left.most_inside == right.most_inside
         && (left.reentry == right.reentry && left.order == right.order))
-        && same_step_bounds(left, right)
         && (left.progress == right.progress && left.bounds == right.bounds)
 }
 
@@ -323,6 +324,7 @@ fn same_title(left: &Algorithm, right: &Algorithm) -> bool
     ensures { IsTrue result ↔ AreTitledAlike left.now right.now }
 {
     (same_name(&left.name, &right.name) && same_promises(left.promises, right.promises))
+        && same_step_bounds(&left.step_bounds, &right.step_bounds)
         && (left.least == right.least && left.most == right.most)
 }
 

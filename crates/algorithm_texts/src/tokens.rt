@@ -245,7 +245,7 @@ fn letters(bytes: &[u8]) -> usize
 
 /// The first token, and how many bytes it takes.
 #[tactic(auto, unfolding(crate::specs::Tokens::first_token))]
-fn first_token(bytes: &[u8]) -> Result<(Token, usize), ReadFault>
+pub fn first_token(bytes: &[u8]) -> Result<(Token, usize), ReadFault>
     requires { 0 < length bytes.now }
     ensures token { result ≡ first_token bytes.now }
     ensures size { IfOk result (λ read. (0 < read.1) × (read.1 ≤ length bytes.now)) }
@@ -336,7 +336,7 @@ pub fn place_of_byte(bytes: &[u8], wanted: u8) -> Option<usize>
 }
 
 /// The bytes before a comment.
-fn before_comment(line: &[u8]) -> &[u8]
+pub fn before_comment(line: &[u8]) -> &[u8]
     ensures { result.now ≡ before_comment line.now }
 {
     match place_of_byte(line, b'#') {

@@ -19,7 +19,7 @@ use crate::writer::operands::{first_of, put_declared};
 use crate::writer::page::AlgorithmText;
 use crate::writer::text_builder::TextBuilder;
 use algorithms::algorithm::{
-    Algorithm, Declaration, Extent, NamedConstant, ProgressPromise, Promises,
+    Algorithm, Declaration, Extent, NamedConstant, ProgressPromise, Promises, StepBounds,
 };
 use algorithms::expression::{Expression, Operator, is_in_row};
 use algorithms::fault::AlgorithmFault;
@@ -43,13 +43,11 @@ impl From<AllocError> for WritingFault {
     }
 }
 
-/// Writes a promise of at most this many own steps of a section, where there is one.
-fn put_step_bound(text: &mut TextBuilder, section: &str, most: Option<u64>) {
-    if let Some(most) = most {
-        text.put(section);
-        text.put(" within ");
-        text.put_number(most);
-    }
+/// Writes the bounds on own steps.
+fn put_step_bounds(text: &mut TextBuilder, bounds: &StepBounds) {
+    put_declared_if(text, ", exit within ", bounds.exit.as_ref());
+    put_declared_if(text, ", recovery within ", bounds.recovery.as_ref());
+    put_declared_if(text, ", doorway within ", bounds.doorway.as_ref());
 }
 
 /// Writes what is promised of calls under way, where that is something.
@@ -70,14 +68,12 @@ fn put_most_inside(text: &mut TextBuilder, most_inside: u64) {
 }
 
 /// Writes what is promised.
-fn put_promises(text: &mut TextBuilder, promises: Promises) {
+fn put_promises(text: &mut TextBuilder, promises: Promises, bounds: &StepBounds) {
     text.put("promises exclusion");
     put_most_inside(text, promises.most_inside);
     text.put_when(promises.reentry, ", reentry");
     text.put_when(promises.order, ", order");
-    put_step_bound(text, ", exit", promises.exit);
-    put_step_bound(text, ", recovery", promises.recovery);
-    put_step_bound(text, ", doorway", promises.doorway);
+    put_step_bounds(text, bounds);
     put_progress(text, promises.progress);
     text.put_when(promises.bounds, ", bounds");
 }
@@ -97,7 +93,7 @@ fn put_title(text: &mut TextBuilder, algorithm: &Algorithm) {
 fn put_head(page: &mut AlgorithmText, algorithm: &Algorithm) {
     put_title(&mut page.text, algorithm);
     page.end_line();
-    put_promises(&mut page.text, algorithm.promises);
+    put_promises(&mut page.text, algorithm.promises, &algorithm.step_bounds);
     page.end_line();
 }
 

@@ -2,6 +2,7 @@
 use Rattle.std.specs.Prelude.{ℕ, zero, suc, min, nat_le, Bool, true, false, ◌&&◌, List, [], ◌∷◌, ◌++◌, drop, length, replicate, slice_get, Option, Some, None, is_some, option_and_then}
 use Rattle.algorithms.specs.Accesses.{value_stored}
 use Rattle.algorithms.specs.Extents.{constants_at, size_value, or_zero, extent_length, owner_at, has_size}
+use Rattle.algorithms.specs.PromisedSteps.{has_step_bounds}
 use Rattle.algorithms.specs.Values.{expression_value}
 use Rattle.algorithms.specs.declared.algorithm.Algorithm.{Algorithm}
 use Rattle.algorithms.specs.declared.algorithm.Declaration.{Declaration}
@@ -110,10 +111,14 @@ abbrev pub has_extents : Algorithm → ℕ → ℕ → Bool
 has_extents a procs limit = all_below (λ k. has_extent procs limit (slice_get a.declarations.items k)) (length a.declarations.items)
 
 -- where first values are said, each constant has a value at these sizes, each row of private names a size, each array words, and each word a first value
-abbrev pub has_all_values : Algorithm → ℕ → ℕ → Option FirstValues → Bool
-has_all_values a procs limit None = true
-has_all_values a procs limit (Some v) =
+abbrev pub has_said_values : Algorithm → ℕ → ℕ → Option FirstValues → Bool
+has_said_values a procs limit None = true
+has_said_values a procs limit (Some v) =
     has_constants a procs limit && (has_row_sizes a procs limit && (has_extents a procs limit && has_first_words a procs limit v))
+
+-- so has each bound on own steps
+abbrev pub has_all_values : Algorithm → ℕ → ℕ → Option FirstValues → Bool
+has_all_values a procs limit values = has_step_bounds procs limit a.step_bounds && has_said_values a procs limit values
 
 -- ---- the rows of a world
 

@@ -2,6 +2,7 @@ pub mod Values
 pub mod LocalRuns
 pub mod Arrivals
 pub mod Extents
+pub mod PromisedSteps
 pub mod Accesses
 pub mod Steps
 pub mod FirstWords

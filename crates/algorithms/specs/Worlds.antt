@@ -4,6 +4,7 @@ use Rattle.algorithms.specs.Accesses.{access_of}
 use Rattle.algorithms.specs.Arrivals.{arrives, line_at, most_local_rounds, ◌>>=◌}
 use Rattle.algorithms.specs.FirstWords.{first_rows, has_all_values, rows_at_beginning}
 use Rattle.algorithms.specs.LocalRuns.{nothing_noted}
+use Rattle.algorithms.specs.PromisedSteps.{promised_steps_at}
 use Rattle.algorithms.specs.Steps.{lasting_names, step_before_access, advance_of}
 use Rattle.algorithms.specs.declared.access.Address.{Address}
 use Rattle.algorithms.specs.declared.access.Advanced.{Advanced}
@@ -22,6 +23,7 @@ use Rattle.algorithms.specs.declared.local.LocalState.{LocalState}
 use Rattle.algorithms.specs.declared.process.AlgorithmPlace.{AlgorithmPlace}
 use Rattle.algorithms.specs.declared.process.AlgorithmPlace.TheVariants.{Rest, Dead, At}
 use Rattle.algorithms.specs.declared.process.AlgorithmProcess.{AlgorithmProcess}
+use Rattle.algorithms.specs.declared.promised_steps.PromisedSteps.{PromisedSteps}
 use Rattle.algorithms.specs.declared.refusal.AlgorithmRefusal.{AlgorithmRefusal}
 use Rattle.algorithms.specs.declared.refusal.AlgorithmRefusal.TheVariants.{BadProcs, BadLimit, NoSuchProcess, CallUnderWay, NothingToDo, NotWaiting, NoSuchCall, OutOfRange, Malformed, OutOfMemory}
 
@@ -60,7 +62,7 @@ first_world a procs limit = world_of_rows a.algorithm procs limit (first_rows a.
 abbrev pub world_at_beginning : AlgorithmWorldState → AlgorithmWorldState
 world_at_beginning w = record w { words = rows_at_beginning w.first_rows (length w.words); processes = replicate (length w.processes) resting }
 
--- the refusal of sizes for which a constant, a first value or an array has no value
+-- the refusal of sizes for which a constant, a first value, an array or a bound on own steps has no value
 abbrev pub value_refusal : InitializedAlgorithm → ℕ → ℕ → Option AlgorithmRefusal
 value_refusal a procs limit = if has_all_values a.algorithm procs limit a.first_values then None else Some BadProcs
 
@@ -78,6 +80,10 @@ cause e = Some e
 
 abbrev pub constants_of : AlgorithmWorldState → ℕ → Constants
 constants_of w p = record { me = p; procs = w.procs; limit = w.limit }
+
+-- the bounds on own steps of its algorithm
+abbrev pub promised_steps : AlgorithmWorldState → PromisedSteps
+promised_steps w = promised_steps_at w.procs w.limit w.algorithm.step_bounds
 
 abbrev pub process_of : AlgorithmWorldState → ℕ → Result AlgorithmProcess AlgorithmRefusal
 process_of w p = ok_or (slice_get w.processes p) NoSuchProcess

@@ -26,16 +26,21 @@ pub struct Promises {
     pub reentry: bool,
     /// First come, first served.
     pub order: bool,
-    /// The most own steps of an `unlock`, where they are bounded.
-    pub exit: Option<u64>,
-    /// The most own steps of a `lock` after a crash inside, up to the re-entry, where they are bounded.
-    pub recovery: Option<u64>,
-    /// The most own steps of a doorway, where they are bounded.
-    pub doorway: Option<u64>,
     /// What becomes of calls under way, where it is promised.
     pub progress: Option<ProgressPromise>,
     /// No move is refused since a value would leave its range.
     pub bounds: bool,
+}
+
+/// The most own steps that an algorithm promises, where they are bounded: values of numbers, `procs` and `limit`.
+#[derive(Debug, Drop)]
+pub struct StepBounds {
+    /// Of an `unlock`.
+    pub exit: Option<Expression>,
+    /// Of a `lock` after a crash inside, up to the re-entry.
+    pub recovery: Option<Expression>,
+    /// Of a doorway.
+    pub doorway: Option<Expression>,
 }
 
 /// A constant of a text: a name for a value of numbers, `procs` and `limit`. Where it stood in a line, its value stands there.
@@ -117,6 +122,7 @@ pub struct Algorithm {
     pub least: u64,
     pub most: u64,
     pub promises: Promises,
+    pub step_bounds: StepBounds,
     pub constants: Vec<NamedConstant>,
     pub declarations: Vec<Declaration>,
     /// The private names. The first `lasting` of them stay from call to call, until a crash.

@@ -8,7 +8,7 @@ use crate::constants::{Constants, MOST_PROCS};
 use crate::expression::{Expression, NAMES, Operator};
 
 /// The value of a size.
-fn size_value(size: &Expression, procs: u64, limit: u64) -> Option<u64>
+pub(crate) fn size_value(size: &Expression, procs: u64, limit: u64) -> Option<u64>
     ensures { result ≡ size_value procs limit size.now }
 {
     let me = 0;

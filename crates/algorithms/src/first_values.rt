@@ -10,8 +10,8 @@ pub struct FirstValues {
     pub starts: Vec<Option<Expression>>,
 }
 
-/// An algorithm, and the first values of its words. A world of it has them only for sizes for which each of them and each constant
-/// is in range, and each array has 1 to 64 words.
+/// An algorithm, and the first values of its words. A world of it has them only for sizes for which each of them, each constant and
+/// each bound on own steps is in range, and each array has 1 to 64 words.
 #[derive(Debug, Drop)]
 pub struct InitializedAlgorithm {
     pub algorithm: Algorithm,

@@ -1,7 +1,7 @@
 //! The words of a world at its beginning, by the first values that are said.
 
 ghost use Rattle.std.specs.Prelude.{◌≡◌, ◌≤◌, Some, IfOk, IfErr, slice_get};
-ghost use Rattle.algorithms.specs.FirstWords.{declaration_size, first_value, row_of_values, first_row, rows_said, held_rows, first_rows, has_values, has_row, has_first_words, has_constant, has_constants, is_row_size, has_row_size, has_row_sizes, has_extent, has_extents, has_all_values};
+ghost use Rattle.algorithms.specs.FirstWords.{declaration_size, first_value, row_of_values, first_row, rows_said, held_rows, first_rows, has_values, has_row, has_first_words, has_constant, has_constants, is_row_size, has_row_size, has_row_sizes, has_extent, has_extents, has_said_values, has_all_values};
 
 use crate::access::value_within;
 use crate::algorithm::{Algorithm, Declaration};
@@ -272,13 +272,13 @@ fn has_extents(algorithm: &Algorithm, procs: u64, limit: u64) -> bool
 
 /// Whether each constant has a value at these sizes, each row of private names a size, each array words, and each word a first
 /// value, where first values are said.
-pub fn has_all_values(
+fn has_said_values(
     algorithm: &Algorithm,
     values: &Option<FirstValues>,
     procs: u64,
     limit: u64,
 ) -> bool
-    ensures { result ≡ has_all_values algorithm.now procs limit values.now }
+    ensures { result ≡ has_said_values algorithm.now procs limit values.now }
 {
     match values {
         None => true,
@@ -289,4 +289,17 @@ pub fn has_all_values(
                         && has_first_words(algorithm, values, procs, limit)))
         }
     }
+}
+
+/// Whether each bound on own steps has a value at these sizes, and all that is said with first values.
+pub fn has_all_values(
+    algorithm: &Algorithm,
+    values: &Option<FirstValues>,
+    procs: u64,
+    limit: u64,
+) -> bool
+    ensures { result ≡ has_all_values algorithm.now procs limit values.now }
+{
+    algorithm.step_bounds.have_values(procs, limit)
+        && has_said_values(algorithm, values, procs, limit)
 }

@@ -22,6 +22,7 @@ pub mod never_claim;
 pub mod noted;
 pub mod process;
 mod process_step;
+pub mod promised_steps;
 pub mod refusal;
 pub mod remote_references;
 pub mod world;
@@ -29,7 +30,7 @@ pub mod world;
 pub use access::{Address, Advanced, Moved, Taken, WordAccess};
 pub use algorithm::{
     Algorithm, AlgorithmCall, Declaration, Entries, Extent, NamedConstant, NamedRow,
-    ProgressPromise, Promises,
+    ProgressPromise, Promises, StepBounds,
 };
 pub use condition::{Comparison, Condition, Pair};
 pub use constants::{Constants, MOST_PROCS};
@@ -43,6 +44,7 @@ pub use line::{
 pub use never_claim::{ClaimedPhase, NeverClaim, StateFact};
 pub use noted::NotedDeeds;
 pub use process::{AlgorithmPlace, AlgorithmProcess};
+pub use promised_steps::PromisedSteps;
 pub use refusal::AlgorithmRefusal;
 pub use remote_references::copies::Copies;
 pub use remote_references::memory_event::MemoryEvent;

@@ -1,6 +1,6 @@
 //! The worlds of an algorithm.
 
-ghost use Rattle.std.specs.Prelude.{◌≡◌, ◌<◌, Some, None, Ok, Err, IfOk, IfErr, OnOk, OnErr, length};
+ghost use Rattle.std.specs.Prelude.{◌≡◌, ◌<◌, Some, None, Ok, Err, IfOk, IfErr, OnOk, OnErr, is_ok, length, true};
 ghost use Rattle.algorithms.specs.Worlds.{words_after_access};
 
 use crate::access::{Address, Advanced, Taken, WordAccess};
@@ -12,6 +12,7 @@ use crate::first_values::InitializedAlgorithm;
 use crate::first_words::{first_rows, has_all_values};
 use crate::process::{AlgorithmPlace, AlgorithmProcess};
 use crate::process_step::{access_at, begin, place_of, state_at, step_from, take};
+use crate::promised_steps::PromisedSteps;
 use crate::refusal::AlgorithmRefusal;
 use std::alloc::{AllocError, Global};
 use std::marker::Model;
@@ -27,6 +28,7 @@ pub struct AlgorithmWorld {
     algorithm: Arc<Algorithm>,
     procs: u64,
     limit: u64,
+    promised_steps: PromisedSteps,
     first_rows: Arc<Option<FirstRows>>,
     words: Vec<[u64; MOST_PROCS]>,
     processes: Vec<AlgorithmProcess>,
@@ -46,6 +48,7 @@ impl Model for AlgorithmWorld {
     ghost use Rattle.algorithms.specs.contracts.condition.Condition as condition;
     ghost use Rattle.algorithms.specs.contracts.expression.Expression as expression;
     ghost use Rattle.algorithms.specs.FirstWords.{held_rows};
+    ghost use Rattle.algorithms.specs.PromisedSteps.{promised_steps_at};
     ghost use Rattle.algorithms.specs.Worlds.{AlgorithmWorldState};
 
     ghost Value = { AlgorithmWorldState };
@@ -61,7 +64,8 @@ impl Model for AlgorithmWorld {
       processes = w.processes.items;
     } };
 
-    ghost invariant = { λ w. vec_len w.processes ≡ w.procs };
+    ghost invariant = { λ w. (vec_len w.processes ≡ w.procs)
+        × (w.promised_steps ≡ promised_steps_at w.procs w.limit (arc_value w.algorithm).step_bounds) };
 }
 
 /// Stores the value of an access, if it has one.
@@ -79,12 +83,13 @@ pub(crate) fn store(words: &mut [[u64; MOST_PROCS]], access: WordAccess)
 }
 
 impl AlgorithmWorld {
-    ghost use Rattle.algorithms.specs.Worlds.{first_world, new_refusal, cause, constants_of, process_of, start, start_of_process, step, advance, next_access, crash, world_at_beginning, with_process};
+    ghost use Rattle.algorithms.specs.Worlds.{first_world, new_refusal, cause, constants_of, process_of, start, start_of_process, step, advance, next_access, crash, world_at_beginning, with_process, promised_steps};
 
     /// A world with the first values of all words, and all processes at rest. `limit` is the algorithm's `limit`.
     ///
     /// `BadProcs`: the algorithm is not for this number of processes. `BadLimit`: not 1 to 2^62. `BadProcs` also where at these
-    /// sizes a constant or a first value is out of range, a first value above its bound, or an array has no word or more than 64.
+    /// sizes a constant, a first value or a bound on own steps is out of range, a first value above its bound, or an array has no
+    /// word or more than 64.
     pub fn new(
         alloc: Global,
         algorithm: InitializedAlgorithm,
@@ -116,11 +121,13 @@ impl AlgorithmWorld {
         let words = rows_at_beginning(alloc, &rows, algorithm.declarations.len())?;
         let processes = all_at_rest(alloc, procs as usize)?;
         let algorithm = Arc::new(alloc, algorithm)?;
+        let promised_steps = algorithm.step_bounds.promised_steps(procs, limit);
         let first_rows = Arc::new(alloc, rows)?;
         Ok(AlgorithmWorld {
             algorithm,
             procs,
             limit,
+            promised_steps,
             first_rows,
             words,
             processes,
@@ -203,6 +210,36 @@ impl AlgorithmWorld {
         Ok(advanced)
     }
 
+    /// Whether a process can start a call. Refused as `start` is.
+    pub fn check_start(&self, p: u64, call: AlgorithmCall) -> Result<(), AlgorithmRefusal>
+        ensures ok { OnOk result (is_ok (start self.now p call) ≡ true) }
+        ensures refused { IfErr result (λ e. start self.now p call ≡ Err e) }
+    {
+        let process = self.process_at(p)?;
+        begin(&self.algorithm, self.constants(p), process, call)?;
+        Ok(())
+    }
+
+    /// Whether a process can take a step. Refused as `step` is.
+    pub fn check_step(&self, p: u64) -> Result<(), AlgorithmRefusal>
+        ensures ok { OnOk result (is_ok (advance self.now p) ≡ true) }
+        ensures refused { IfErr result (λ e. advance self.now p ≡ Err e) }
+    {
+        let process = self.process_at(p)?;
+        let AlgorithmPlace::At(at) = process.place else {
+            return Err(AlgorithmRefusal::NothingToDo);
+        };
+        let mut state = state_at(at, process);
+        let constants = self.constants(p);
+        take(
+            &self.algorithm,
+            constants,
+            self.words.as_slice(),
+            &mut state,
+        )?;
+        Ok(())
+    }
+
     /// The access that a process makes next, as far as it is known before its word is read: of a swap not whether it stores.
     ///
     /// Refused as a step is that comes to no access. A later value that leaves the bounds is not seen.
@@ -258,6 +295,7 @@ impl AlgorithmWorld {
             algorithm,
             procs: self.procs,
             limit: self.limit,
+            promised_steps: self.promised_steps,
             first_rows,
             words,
             processes,
@@ -334,6 +372,13 @@ impl AlgorithmWorld {
         ensures { result ≡ self.now.limit }
     {
         self.limit
+    }
+
+    /// The algorithm's bounds on own steps in worlds of these sizes. They were reckoned where the world was made.
+    pub fn promised_steps(&self) -> PromisedSteps
+        ensures { result ≡ promised_steps self.now }
+    {
+        self.promised_steps
     }
 
     /// For this workspace alone, to decode a world: sets a shared word. An address outside of the words changes nothing.

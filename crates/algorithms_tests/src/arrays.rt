@@ -17,7 +17,8 @@ answer \n\
 Entries { lock: 0, unlock: 5, recover: None, withdraw: None }
 corner [\"v\"]
 [Declaration { name: \"grid\", extent: Table(Joined(Product, Procs, Procs), Procs), bound: None, home: None }, Declaration { name: \"line\", extent: Array(Limit), bound: None, home: None }]
-Promises { most_inside: 1, reentry: false, order: false, exit: None, recovery: None, doorway: None, progress: None, bounds: false }
+Promises { most_inside: 1, reentry: false, order: false, progress: None, bounds: false }
+StepBounds { exit: None, recovery: None, doorway: None }
 2 to 2 processes, 0 lasting names
 first values Some(FirstValues { starts: [None, Some(Me)] })
 ";

@@ -1,5 +1,6 @@
 //! A text for each fault, with its line and its number, and some texts that have none.
 
+use crate::details::detail_of;
 use algorithm_texts::read_algorithm;
 use std::alloc::Global;
 use std::fmt::Write;
@@ -103,11 +104,14 @@ read texts without a fault\n\
 == good\nalgorithm a for 2 processes\npromises exclusion\nshared flag[procs] up to 1\nshared turn\ncall lock\nl:\n  v := turn\n  if v = 1 then\n    turn := 0\n    goto l\n  else\n    turn := 1 this is enter\n    goto l\n  end\ncall unlock\nl:\n  turn := 0 this is leave\n  goto l\n--\nread\n\
 ";
 
-/// Writes what the reading of a text comes to.
+/// Writes what the reading of a text comes to. What more is said of its fault names a part of the text.
 pub fn put_reading(alloc: Global, given: &[u8], text: &mut String) -> Result<(), Fail> {
     match read_algorithm(alloc, given) {
         Ok(_) => text.push_str("read\n")?,
-        Err(fault) => writeln!(text, "{fault}")?,
+        Err(fault) => {
+            detail_of(alloc, given, fault)?;
+            writeln!(text, "{fault}")?
+        }
     }
     Ok(())
 }

@@ -3,8 +3,8 @@
 //! of it. Where one text is both, there is no `--`.
 
 use crate::{
-    bad_texts, costs, drawings, homes, hostile_texts, hunts, mean_costs, remote_references, runs,
-    schedules, searches, sessions, shrinks, spelling, starving, stuck,
+    bad_texts, costs, details, drawings, homes, hostile_texts, hunts, mean_costs,
+    remote_references, runs, schedules, searches, sessions, shrinks, spelling, starving, stuck,
 };
 use std::alloc::Global;
 use std::test::Fail;
@@ -89,7 +89,8 @@ fn put_played(
     put_found(alloc, kind, words, given, text)
 }
 
-/// Does what the first word of a table says, and writes what comes of it: a text is read, also with a part that it has many times; or
+/// Does what the first word of a table says, and writes what comes of it: a text is read, also with what more is said of its fault, or
+/// with a part that it has many times; or
 /// what it spells is written, its answers, or where its words live. What is none of these is played.
 fn put_outcome(
     alloc: Global,
@@ -100,6 +101,9 @@ fn put_outcome(
 ) -> Result<(), Fail> {
     if kind == "read" {
         return bad_texts::put_reading(alloc, given.as_bytes(), text);
+    }
+    if kind == "detail" {
+        return details::put_detail(alloc, given.as_bytes(), text);
     }
     if kind == "repeat" {
         return hostile_texts::put_reading(alloc, words, given, text);

@@ -2,9 +2,9 @@
 //! version, in which a word lives at no process that its text does not name.
 
 use crate::remote_references::MODELS;
-use crate::support::{crashes_left, number, text_named};
+use crate::support::{number, searched_with, text_named};
 use algorithm_explorer::{
-    AlgorithmCost, AlgorithmMove, CostQuestion, CostlySchedule, Unwatched, algorithm_cost,
+    AlgorithmMove, CostQuestion, CostlySchedule, PassageCost, Unwatched, algorithm_cost,
 };
 use algorithm_texts::read_algorithm;
 use algorithms::{
@@ -89,7 +89,7 @@ fn cost_on_run(
     algorithm: InitializedAlgorithm,
     sizes: (u64, u64),
     question: CostQuestion,
-    found: &CostlySchedule,
+    found: &CostlySchedule<AlgorithmMove>,
 ) -> Result<u64, Fail> {
     let copies = Copies::new(alloc, algorithm.algorithm.declarations.len())?;
     let mut world = AlgorithmWorld::new(alloc, algorithm, sizes.0, sizes.1)?;
@@ -114,21 +114,12 @@ fn put_cost(
     kind: PassageKind,
     text: &mut String,
 ) -> Result<(), Fail> {
-    let [name, procs, limit, crashes, ..] = words;
+    let [name, procs, limit, ..] = words;
     let question = CostQuestion { model, kind };
     let sizes = (number(procs), number(limit));
-    let answer = algorithm_cost(
-        alloc,
-        read_algorithm(alloc, text_named(name))?,
-        sizes.0,
-        sizes.1,
-        crashes_left(crashes),
-        &CALLS,
-        question,
-        1_000_000,
-        &mut Unwatched,
-    )?;
-    let AlgorithmCost::Greatest(found) = answer else {
+    let search = searched_with(alloc, words, &CALLS)?;
+    let answer = algorithm_cost(alloc, search, question, 1_000_000, &mut Unwatched)?;
+    let PassageCost::Greatest(found) = answer else {
         text.push_str(" unbounded")?;
         return Ok(());
     };

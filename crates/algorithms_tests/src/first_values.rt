@@ -20,7 +20,8 @@ answer \n\
 Entries { lock: 0, unlock: 4, recover: None, withdraw: None }
 seats [\"v\"]
 [Declaration { name: \"seat\", extent: Each, bound: Some(Number(2)), home: None }]
-Promises { most_inside: 1, reentry: false, order: false, exit: None, recovery: None, doorway: None, progress: None, bounds: false }
+Promises { most_inside: 1, reentry: false, order: false, progress: None, bounds: false }
+StepBounds { exit: None, recovery: None, doorway: None }
 1 to 64 processes, 0 lasting names
 first values Some(FirstValues { starts: [Some(Procs)] })
 ";

@@ -22,7 +22,8 @@ answer \n\
 Entries { lock: 0, unlock: 3, recover: None, withdraw: None }
 homes [\"h\"]
 [Declaration { name: \"held\", extent: One, bound: Some(Number(1)), home: Some(Joined(Quotient, Procs, Number(2))) }, Declaration { name: \"near\", extent: Each, bound: None, home: Some(Me) }, Declaration { name: \"before\", extent: Each, bound: Some(Number(9)), home: Some(Joined(Difference, Me, Number(1))) }, Declaration { name: \"far\", extent: Each, bound: None, home: Some(Joined(Sum, Procs, Me)) }, Declaration { name: \"limited\", extent: One, bound: None, home: Some(Limit) }]
-Promises { most_inside: 1, reentry: false, order: false, exit: None, recovery: None, doorway: None, progress: None, bounds: false }
+Promises { most_inside: 1, reentry: false, order: false, progress: None, bounds: false }
+StepBounds { exit: None, recovery: None, doorway: None }
 1 to 64 processes, 0 lasting names
 first values Some(FirstValues { starts: [None, None, Some(Number(1)), None, None] })
 ";

@@ -1,15 +1,15 @@
 //! Hunts on algorithms. What the hunt of a seed finds was found with the reference program and the drawing rule.
 
 use crate::support::{number, put_schedule, text_named};
-use algorithm_hunts::{AlgorithmHuntFault, Unwatched, hunt_algorithm_schedule};
+use algorithm_hunts::{AlgorithmHuntFault, RandomMoves, Unwatched, hunt_algorithm_schedule};
 use algorithm_texts::read_algorithm;
 use schedule::Schedule;
 use std::alloc::Global;
 use std::fmt::Write;
 use std::test::Fail;
 
-/// What hunts find: after the text the number of processes, the limit, the seed, the rounds and their steps. Where it ends with
-/// `lines`, they are only counted.
+/// What hunts find: after the text the number of processes, the limit, the seed, the rounds and their steps. After `lines` they are
+/// only counted. Last is how many of 1,000 moves are crashes of all.
 pub const HUNTS: &str = "hunt by a seed
 == one_word 2 1 2 20 1000
 --
@@ -66,6 +66,50 @@ none
 == one_word 2 1 2 1 7
 --
 none
+== one_word 2 1 2 20 1000 whole 50
+--
+rme 1 procs 2 limit 1 cap 1
+crash all
+crash 1
+lock 1
+step 1
+crash all
+crash all
+crash 1
+crash all
+lock 1
+lock 0
+step 0
+step 1
+step 0
+step 1
+== one_word 2 1 5 20 1000 whole 100
+--
+rme 1 procs 2 limit 1 cap 1
+crash all
+crash all
+lock 1
+crash all
+crash all
+crash all
+lock 0
+step 0
+lock 1
+step 1
+step 0
+step 1
+== one_word 2 1 4 20 1000 lines 300
+--
+6 lines
+== one_word 2 1 1 20 1000 whole 300
+--
+none
+== one_word 2 1 1 20 1000 whole 1000
+--
+none
+== recoverable_peterson 2 1 1 3 200 whole 50
+--
+none
 == peterson 2 1 2 20 1000 lines
 --
 302 lines
@@ -101,18 +145,22 @@ fn put_answer(
     }
 }
 
-/// A hunt, as a case: the text, the sizes, the seed, the rounds and their steps.
+/// A hunt, as a case: the text, the sizes, the seed, the rounds, their steps, the form and the crashes of all.
 pub fn put_hunt(alloc: Global, words: &[&str; 8], text: &mut String) -> Result<(), Fail> {
     let algorithm = read_algorithm(alloc, text_named(words[0]))?;
-    let [_, procs, limit, seed, rounds, steps, form, _] = words;
+    let [_, procs, limit, seed, rounds, steps, form, system_crashes] = words;
+    let asked = RandomMoves {
+        seed: number(seed),
+        steps: number(steps),
+        system_crashes: system_crashes.parse().unwrap_or(0),
+    };
     let found = hunt_algorithm_schedule(
         alloc,
         algorithm,
         number(procs),
         number(limit),
-        number(seed),
+        asked,
         number(rounds),
-        number(steps),
         &mut Unwatched,
     );
     put_answer(alloc, &found, *form == "lines", text)

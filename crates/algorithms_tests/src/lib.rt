@@ -16,6 +16,8 @@ mod constants;
 #[cfg(test)]
 mod costs;
 #[cfg(test)]
+mod details;
+#[cfg(test)]
 mod drawings;
 #[cfg(test)]
 mod first_values;

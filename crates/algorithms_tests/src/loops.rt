@@ -24,7 +24,8 @@ answer \n\
 Entries { lock: 0, unlock: 13, recover: None, withdraw: None }
 filter [\"l\", \"k\", \"v\", \"w\"]
 [Declaration { name: \"level\", extent: Each, bound: Some(Joined(Difference, Procs, Number(1))), home: Some(Me) }, Declaration { name: \"last\", extent: Each, bound: Some(Joined(Difference, Procs, Number(1))), home: None }]
-Promises { most_inside: 1, reentry: false, order: false, exit: None, recovery: None, doorway: None, progress: None, bounds: false }
+Promises { most_inside: 1, reentry: false, order: false, progress: None, bounds: false }
+StepBounds { exit: None, recovery: None, doorway: None }
 2 to 64 processes, 0 lasting names
 first values None
 ";

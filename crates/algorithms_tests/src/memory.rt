@@ -6,7 +6,7 @@ use crate::schedules::ALONE_BY_STEPS;
 use crate::sinks::{Kind, put_out, schedule_of};
 use crate::support::text_named;
 use algorithm_hunts::{
-    AlgorithmHuntFault, Unwatched, hunt_algorithm_schedule, shrink_algorithm_schedule,
+    AlgorithmHuntFault, RandomMoves, Unwatched, hunt_algorithm_schedule, shrink_algorithm_schedule,
 };
 use algorithm_lab::AlgorithmReplayFault;
 use algorithm_texts::read_algorithm;
@@ -75,9 +75,12 @@ fn called(
             algorithm,
             2,
             1,
-            2,
+            RandomMoves {
+                seed: 2,
+                steps: 1000,
+                system_crashes: 0,
+            },
             20,
-            1000,
             &mut Unwatched,
         ) {
             Ok(found) => lines_of(found),

@@ -161,10 +161,15 @@ fn models_that_are_refused(rt: HostRuntime) -> Result<(), Fail> {
     let crashes = fault_of(rt.alloc(), peterson, 2, 1, 32768)?;
     let products = fault_of(rt.alloc(), WIDE, 2, 1, 0)?;
     let crowd = fault_of(rt.alloc(), CROWD, 2, 1, 0)?;
+    let squared = text_named("squared");
+    let ranged = fault_of(rt.alloc(), squared, 1, 1, 0)?;
+    let bounded = fault_of(rt.alloc(), squared, 2, 32767, 0)?;
     assert!(rt; refused == Some(PromelaFault::Refused(AlgorithmRefusal::BadProcs)));
     assert!(rt; great == Some(PromelaFault::TooGreat));
     assert!(rt; crashes == Some(PromelaFault::TooGreat));
     assert!(rt; products == Some(PromelaFault::TooGreat));
     assert!(rt; crowd == Some(PromelaFault::TooGreat));
+    assert!(rt; ranged == Some(PromelaFault::Refused(AlgorithmRefusal::BadProcs)));
+    assert!(rt; bounded.is_none());
     Ok(())
 }

@@ -2,12 +2,11 @@
 //! how many states there are, with the moves left out. After the text a case has the sizes, how many crashes there may be, of a process
 //! alone and after a plus of all, and whether processes make all calls.
 
-use crate::support::{calls_named, crashes_left, number, text_named};
+use crate::support::searched;
 use algorithm_explorer::{
     AlgorithmBounds, AlgorithmOutcome, LeftOut, SearchOutcome, Unwatched,
     shortest_algorithm_schedule,
 };
-use algorithm_texts::read_algorithm;
 use std::alloc::{AllocError, Global};
 use std::fmt::Write;
 use std::test::Fail;
@@ -92,18 +91,8 @@ fn put_found(text: &mut String, found: &AlgorithmOutcome) -> Result<(), AllocErr
 
 /// A search, as a case: the text, the sizes, the crashes and the calls.
 pub fn put_search(alloc: Global, words: &[&str; 8], text: &mut String) -> Result<(), Fail> {
-    let [name, procs, limit, crashes, calls, ..] = words;
-    let algorithm = read_algorithm(alloc, text_named(name))?;
-    let found = shortest_algorithm_schedule(
-        alloc,
-        algorithm,
-        number(procs),
-        number(limit),
-        crashes_left(crashes),
-        calls_named(calls),
-        &BOUNDS,
-        &mut Unwatched,
-    );
+    let search = searched(alloc, words)?;
+    let found = shortest_algorithm_schedule(alloc, search, &BOUNDS, &mut Unwatched);
     let written = match &found {
         Ok(found) => put_found(text, found),
         Err(fault) => writeln!(text, "{fault}"),

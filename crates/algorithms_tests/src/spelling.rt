@@ -85,7 +85,8 @@ answer withdrawn
 Entries { lock: 0, unlock: 36, recover: Some(40), withdraw: Some(57) }
 bakery [\"c\", \"k\", \"i\", \"m\", \"j\", \"v\"]
 [Declaration { name: \"choosing\", extent: Each, bound: Some(Number(1)), home: None }, Declaration { name: \"number\", extent: Each, bound: Some(Limit), home: None }, Declaration { name: \"inside\", extent: Each, bound: Some(Number(1)), home: None }]
-Promises { most_inside: 1, reentry: true, order: true, exit: None, recovery: None, doorway: None, progress: None, bounds: false }
+Promises { most_inside: 1, reentry: true, order: true, progress: None, bounds: false }
+StepBounds { exit: None, recovery: None, doorway: None }
 1 to 64 processes, 0 lasting names
 first values None
 ";
@@ -113,6 +114,7 @@ fn put_all(spelled: &InitializedAlgorithm, text: &mut String) -> Result<(), Allo
     writeln!(text, "{} {:?}", algorithm.name, algorithm.names)?;
     writeln!(text, "{:?}", algorithm.declarations)?;
     writeln!(text, "{:?}", algorithm.promises)?;
+    writeln!(text, "{:?}", algorithm.step_bounds)?;
     let (least, most) = (algorithm.least, algorithm.most);
     writeln!(
         text,

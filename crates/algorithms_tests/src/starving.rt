@@ -2,9 +2,8 @@
 //! cycle have, or how many worlds there are. After the text a case has the sizes, the crashes, the calls beside lock and unlock, and
 //! `any` where anybody may give up.
 
-use crate::support::{calls_named, crashes_left, number, text_named};
+use crate::support::searched;
 use algorithm_explorer::{StarvingOutcome, Unwatched, starving_algorithm_schedule};
-use algorithm_texts::read_algorithm;
 use std::alloc::Global;
 use std::fmt::Write;
 use std::test::Fail;
@@ -75,19 +74,9 @@ starve at length\n\
 
 /// A search, as a case: the text, the sizes, the crashes, the calls, and who may give up.
 pub fn put_starving(alloc: Global, words: &[&str; 8], text: &mut String) -> Result<(), Fail> {
-    let [name, procs, limit, crashes, calls, any, ..] = words;
-    let algorithm = read_algorithm(alloc, text_named(name))?;
-    let found = starving_algorithm_schedule(
-        alloc,
-        algorithm,
-        number(procs),
-        number(limit),
-        crashes_left(crashes),
-        calls_named(calls),
-        *any == "any",
-        100_000,
-        &mut Unwatched,
-    );
+    let any = words[5] == "any";
+    let search = searched(alloc, words)?;
+    let found = starving_algorithm_schedule(alloc, search, any, 100_000, &mut Unwatched);
     let written = match &found {
         Ok(StarvingOutcome::Fault(moves)) => writeln!(text, "fault after {} moves", moves.len()),
         Ok(StarvingOutcome::Starving(lasso)) => writeln!(

@@ -18,6 +18,35 @@ search with bounds on own steps\n\
 == bounded_peterson 2 1 0\n--\n138 states\n\
 == bounded_peterson 2 1 1\n--\n594 states\n\
 == semaphore_2 3 4 0\n--\n56 states\n\
+== clearing 2 1 0\n--\n20 states\n\
+== clearing 3 1 0\n--\n68 states\n\
+== hasty_clearing 2 1 0\n--\n6 moves\n\
+== hasty_clearing 3 1 0\n--\n7 moves\n\
+== squared 1 1 0\n--\nthe algorithm is not for this number of processes\n\
+== squared 2 1 0\n--\n12 states\n\
+== squared 2 2147483648 0\n--\n12 states\n\
+== squared 2 4294967296 0\n--\nthe algorithm is not for this number of processes\n\
+== squared 2 4611686018427387904 0\n--\nthe algorithm is not for this number of processes\n\
+";
+
+/// The values of the bounds are kept as they are said.
+pub const SPELLED: &str = "spell bounds of values
+== squared
+--
+Access(AccessLine { word: WordOf { declaration: 0, index: None }, action: Swap { name: 0, value: Number(1), guard: None, until: Some(Compare(Equal, Private(0), Number(0))) }, may_withdraw: false })
+Local(Note(Enter))
+Done(0)
+Access(AccessLine { word: WordOf { declaration: 0, index: None }, action: Store { value: Number(0) }, may_withdraw: false })
+Local(Note(Leave))
+Done(0)
+answer \n\
+Entries { lock: 0, unlock: 3, recover: None, withdraw: None }
+squared [\"v\"]
+[Declaration { name: \"held\", extent: One, bound: Some(Number(1)), home: None }]
+Promises { most_inside: 1, reentry: false, order: false, progress: None, bounds: false }
+StepBounds { exit: Some(Joined(Product, Limit, Limit)), recovery: Some(Joined(Difference, Procs, Number(2))), doorway: None }
+1 to 64 processes, 0 lasting names
+first values None
 ";
 
 /// The first step above the bound is reported once, before the deeds of the step. A crash gives the section up. The verdict on the
@@ -114,6 +143,57 @@ answer 0 done
 words next 0
 words serving 0
 verdict against 10 at 1
+== hasty_clearing
+rme 1 procs 2 limit 1 cap 1
+lock 0
+step 0
+unlock 0
+step 0 3
+--
+begin 0
+ready 0
+enter 0
+answer 0 done
+exceeds 0 exit
+leave 0
+answer 0 done
+words held 0
+words wants 0 0
+verdict against 8 at 4
+== hasty_clearing
+rme 1 procs 3 limit 1 cap 1
+lock 0
+step 0
+unlock 0
+step 0 3
+step 0
+--
+begin 0
+ready 0
+enter 0
+answer 0 done
+exceeds 0 exit
+leave 0
+answer 0 done
+words held 0
+words wants 0 0 0
+verdict against 8 at 4
+== clearing
+rme 1 procs 3 limit 1 cap 1
+lock 0
+step 0
+unlock 0
+step 0 4
+--
+begin 0
+ready 0
+enter 0
+answer 0 done
+leave 0
+answer 0 done
+words held 0
+words wants 0 0 0
+verdict fine
 ";
 
 /// A schedule that a search finds is least already, but for its lines of steps.
@@ -208,6 +288,21 @@ read faults of bounds\n\
 == a number without of\nalgorithm a for 2 processes\npromises exclusion 2\nshared w\ncall lock\n  w := 1 this is enter\n  done\ncall unlock\n  w := 0 this is leave\n  done\n--\nline 2: fault 4\n\
 == of after re-entry\nalgorithm a for 2 processes\npromises exclusion, reentry of 2\nshared w\ncall lock\n  w := 1 this is enter\n  done\ncall unlock\n  w := 0 this is leave\n  done\n--\nline 2: fault 4\n\
 == of without exclusion\nalgorithm a for 2 processes\npromises of 2\nshared w\ncall lock\n  w := 1 this is enter\n  done\ncall unlock\n  w := 0 this is leave\n  done\n--\nline 2: fault 4\n\
+== me\nalgorithm a for 2 processes\npromises exclusion, exit within me\nshared w\ncall lock\n  w := 1 this is enter\n  done\ncall unlock\n  w := 0 this is leave\n  done\n--\nline 2: fault 4\n\
+== a sum without an end\nalgorithm a for 2 processes\npromises exclusion, exit within procs +\nshared w\ncall lock\n  w := 1 this is enter\n  done\ncall unlock\n  w := 0 this is leave\n  done\n--\nline 2: fault 4\n\
+== a condition\nalgorithm a for 2 processes\npromises exclusion, exit within 1 < 2\nshared w\ncall lock\n  w := 1 this is enter\n  done\ncall unlock\n  w := 0 this is leave\n  done\n--\nline 2: fault 4\n\
+== a pair\nalgorithm a for 2 processes\npromises exclusion, exit within (1, 2)\nshared w\ncall lock\n  w := 1 this is enter\n  done\ncall unlock\n  w := 0 this is leave\n  done\n--\nline 2: fault 4\n\
+== more after the value\nalgorithm a for 2 processes\npromises exclusion, exit within procs this\nshared w\ncall lock\n  w := 1 this is enter\n  done\ncall unlock\n  w := 0 this is leave\n  done\n--\nline 2: fault 4\n\
+== a bracket without an end\nalgorithm a for 2 processes\npromises exclusion, exit within (procs + 1, bounds\nshared w\ncall lock\n  w := 1 this is enter\n  done\ncall unlock\n  w := 0 this is leave\n  done\n--\nline 2: fault 4\n\
+== a bracket too many\nalgorithm a for 2 processes\npromises exclusion, exit within procs + 1), bounds\nshared w\ncall lock\n  w := 1 this is enter\n  done\ncall unlock\n  w := 0 this is leave\n  done\n--\nline 2: fault 4\n\
+== a number after a comma\nalgorithm a for 2 processes\npromises exclusion, exit within procs, 2\nshared w\ncall lock\n  w := 1 this is enter\n  done\ncall unlock\n  w := 0 this is leave\n  done\n--\nline 2: fault 4\n\
+== a maximum of one\nalgorithm a for 2 processes\npromises exclusion, exit within max(procs), bounds\nshared w\ncall lock\n  w := 1 this is enter\n  done\ncall unlock\n  w := 0 this is leave\n  done\n--\nline 2: fault 4\n\
+== a shared word of the next line\nalgorithm a for 2 processes\npromises exclusion, exit within w\nshared w\ncall lock\n  w := 1 this is enter\n  done\ncall unlock\n  w := 0 this is leave\n  done\n--\nline 2: fault 4\n\
+== a name with an index\nalgorithm a for 2 processes\npromises exclusion, exit within x[1]\nshared w\ncall lock\n  w := 1 this is enter\n  done\ncall unlock\n  w := 0 this is leave\n  done\n--\nline 2: fault 6\n\
+== the first fault\nalgorithm a for 2 processes\npromises exclusion, exit within x[1], exit within x\nshared w\ncall lock\n  w := 1 this is enter\n  done\ncall unlock\n  w := 0 this is leave\n  done\n--\nline 2: fault 6\n\
+== an exit twice, the second with a fault\nalgorithm a for 2 processes\npromises exclusion, exit within 1, exit within x[1]\nshared w\ncall lock\n  w := 1 this is enter\n  done\ncall unlock\n  w := 0 this is leave\n  done\n--\nline 2: fault 4\n\
+== a doorway with a fault, without order\nalgorithm a for 2 processes\npromises exclusion, doorway within x[1]\nshared w\ncall lock\n  w := 1 this is enter\n  done\ncall unlock\n  w := 0 this is leave\n  done\n--\nline 2: fault 4\n\
+== seventeen brackets\nalgorithm a for 2 processes\npromises exclusion, exit within (((((((((((((((((1)))))))))))))))))\nshared w\ncall lock\n  w := 1 this is enter\n  done\ncall unlock\n  w := 0 this is leave\n  done\n--\nline 2: fault 16\n\
 == too great\nalgorithm a for 2 processes\npromises exclusion, exit within 18446744073709551616\nshared w\ncall lock\n  w := 1 this is enter\n  done\ncall unlock\n  w := 0 this is leave\n  done\n--\nline 2: fault 16\n\
 == of too many\nalgorithm a for 2 processes\npromises exclusion of 18446744073709551616\nshared w\ncall lock\n  w := 1 this is enter\n  done\ncall unlock\n  w := 0 this is leave\n  done\n--\nline 2: fault 16\n\
 ";
@@ -217,6 +312,11 @@ pub const GOOD: &str = "\
 read bounds\n\
 == a recovery alone\nalgorithm a for 2 processes\npromises exclusion, recovery within 0\nshared w\ncall lock\n  w := 1 this is enter\n  done\ncall unlock\n  w := 0 this is leave\n  done\n--\nread\n\
 == all of them\nalgorithm a for 2 processes\npromises exclusion, reentry, order, exit within 18446744073709551615, recovery within 7, doorway within 2, starvation freedom\nshared w\ncall lock\n  w := 1 this is begin\n  w := 2 this is ready\n  w := 3 this is enter\n  done\ncall unlock\n  w := 0 this is leave\n  done\n--\nread\n\
+== a sum\nalgorithm a for 2 processes\npromises exclusion, exit within procs + 1\nshared w\ncall lock\n  w := 1 this is enter\n  done\ncall unlock\n  w := 0 this is leave\n  done\n--\nread\n\
+== commas in brackets\nalgorithm a for 2 processes\npromises exclusion, reentry, exit within max(procs, min(limit, 3)) - 1, recovery within 3 * (procs - 1), bounds\nshared w\ncall lock\n  w := 1 this is enter\n  done\ncall unlock\n  w := 0 this is leave\n  done\n--\nread\n\
+== out of range at each size\nalgorithm a for 2 processes\npromises exclusion, exit within 0 - 1, recovery within 1 / 0\nshared w\ncall lock\n  w := 1 this is enter\n  done\ncall unlock\n  w := 0 this is leave\n  done\n--\nread\n\
+== sixteen brackets\nalgorithm a for 2 processes\npromises exclusion, exit within ((((((((((((((((1))))))))))))))))\nshared w\ncall lock\n  w := 1 this is enter\n  done\ncall unlock\n  w := 0 this is leave\n  done\n--\nread\n\
+== as the reference program has it\nalgorithm a for 2 processes\npromises exclusion of 2, deadlock freedom, exit within procs + 1\nshared w\ncall lock\n  w := 1 this is enter\n  done\ncall unlock\n  w := 0 this is leave\n  done\n--\nread\n\
 == as names\nalgorithm exit for 2 processes\npromises exclusion, exit within 1\nshared within\ncall lock\n  recovery := within\n  within := recovery this is enter\n  done\ncall unlock\n  within := 0 this is leave\n  done\n--\nread\n\
 == promises as names\nalgorithm bounds for 2 processes\npromises exclusion, bounds\nshared bounds\ncall lock\n  freedom := bounds\n  bounds := freedom this is enter\n  done\ncall unlock\n  bounds := 0 this is leave\n  done\n--\nread\n\
 == bounds alone\nalgorithm a for 2 processes\npromises exclusion, bounds\nshared w\ncall lock\n  w := 1 this is enter\n  done\ncall unlock\n  w := 0 this is leave\n  done\n--\nread\n\

@@ -1,9 +1,8 @@
 //! Searches for a stuck state: how many moves a shortest schedule to one has, or how many states there are. After the text a case
 //! has the sizes, how many crashes there may be, and which calls processes make.
 
-use crate::support::{calls_named, crashes_left, number, text_named};
+use crate::support::searched;
 use algorithm_explorer::{StuckOutcome, Unwatched, stuck_algorithm_schedule};
-use algorithm_texts::read_algorithm;
 use std::alloc::Global;
 use std::fmt::Write;
 use std::test::Fail;
@@ -37,18 +36,8 @@ stuck after a fault\n\
 
 /// A search, as a case: the text, the sizes, the crashes and the calls.
 pub fn put_stuck(alloc: Global, words: &[&str; 8], text: &mut String) -> Result<(), Fail> {
-    let [name, procs, limit, crashes, calls, ..] = words;
-    let algorithm = read_algorithm(alloc, text_named(name))?;
-    let found = stuck_algorithm_schedule(
-        alloc,
-        algorithm,
-        number(procs),
-        number(limit),
-        crashes_left(crashes),
-        calls_named(calls),
-        100_000,
-        &mut Unwatched,
-    );
+    let search = searched(alloc, words)?;
+    let found = stuck_algorithm_schedule(alloc, search, 100_000, &mut Unwatched);
     let written = match &found {
         Ok(StuckOutcome::Fault(moves)) => writeln!(text, "fault after {} moves", moves.len()),
         Ok(StuckOutcome::Stuck(moves)) => writeln!(text, "stuck after {} moves", moves.len()),

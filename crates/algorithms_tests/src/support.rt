@@ -4,8 +4,9 @@ use crate::sessions;
 use crate::texts::{
     arrays, bakeries, claims, constructs, homes, loops, others, promises, queues, rows, swaps,
 };
-use algorithm_explorer::CrashesLeft;
+use algorithm_explorer::{CrashesLeft, SearchedAlgorithm};
 use algorithm_lab::AlgorithmReplayFault;
+use algorithm_texts::read_algorithm;
 use algorithms::AlgorithmCall;
 use schedule::{Schedule, write_schedule};
 use std::alloc::{AllocError, Global};
@@ -56,6 +57,27 @@ pub fn calls_named(word: &str) -> &'static [AlgorithmCall] {
     }
 }
 
+/// The search of a case: the text, the sizes and the crashes, with these calls.
+pub fn searched_with(
+    alloc: Global,
+    words: &[&str; 8],
+    calls: &[AlgorithmCall],
+) -> Result<SearchedAlgorithm, Fail> {
+    let [name, procs, limit, crashes, ..] = words;
+    Ok(SearchedAlgorithm {
+        algorithm: read_algorithm(alloc, text_named(name))?,
+        procs: number(procs),
+        limit: number(limit),
+        crashes: crashes_left(crashes),
+        calls: Vec::from_slice(alloc, calls)?,
+    })
+}
+
+/// The search of a case: the text, the sizes, the crashes and the calls.
+pub fn searched(alloc: Global, words: &[&str; 8]) -> Result<SearchedAlgorithm, Fail> {
+    searched_with(alloc, words, calls_named(words[4]))
+}
+
 /// The name in the header of a text.
 fn name_of(text: &[u8]) -> &str {
     let text = std::str::from_utf8(text).unwrap_or("");
@@ -72,11 +94,14 @@ fn claims_named(name: &str) -> &'static [u8] {
         claims::KEPT_TICKET,
         claims::LINKED_MCS,
         claims::UNLINKED_MCS,
+        promises::CLEARING,
         promises::CROSSED_FLAGS,
         promises::FAIR_TEST_AND_SET,
         promises::FREE_TEST_AND_SET,
+        promises::HASTY_CLEARING,
         promises::MCS_NO_WAIT,
         promises::SEMAPHORE_2,
+        promises::SQUARED,
         queues::DHOKED_MITTAL,
         queues::RECOVERABLE_CLH,
         queues::RECOVERABLE_MCS,

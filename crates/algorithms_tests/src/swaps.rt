@@ -192,7 +192,8 @@ answer \n\
 Entries { lock: 0, unlock: 6, recover: None, withdraw: None }
 recoverable_test_and_set [\"h\"]
 [Declaration { name: \"holder\", extent: One, bound: Some(Procs), home: None }]
-Promises { most_inside: 1, reentry: true, order: false, exit: None, recovery: None, doorway: None, progress: None, bounds: false }
+Promises { most_inside: 1, reentry: true, order: false, progress: None, bounds: false }
+StepBounds { exit: None, recovery: None, doorway: None }
 1 to 64 processes, 0 lasting names
 first values None
 ";

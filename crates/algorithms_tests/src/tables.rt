@@ -7,9 +7,9 @@ use crate::reports::{
     bakeries as reports, constructs, others as other_reports, refusals, variants,
 };
 use crate::{
-    arrays, bad_texts, claims, constants, costs, drawings, first_values, homes, hostile_texts,
-    hunts, loops, mean_costs, remote_references, rows, searches, sessions, shrinks, spelling,
-    starving, step_bounds, stuck, swaps,
+    arrays, bad_texts, claims, constants, costs, details, drawings, first_values, homes,
+    hostile_texts, hunts, loops, mean_costs, remote_references, rows, searches, sessions, shrinks,
+    spelling, starving, step_bounds, stuck, swaps,
 };
 use algorithm_explorer::laws::{no_search_finds_the_text_out, which_states_are_one};
 use algorithm_lab::laws::{
@@ -18,16 +18,17 @@ use algorithm_lab::laws::{
 };
 use algorithm_texts::laws::{
     a_line_says_one_thing, a_text_without_values_begins_at_zero, lines_make_blocks,
-    tokens_are_read_as_said, tokens_say_one_part,
+    tokens_are_at_their_places, tokens_are_read_as_said, tokens_say_one_part,
 };
 use algorithm_texts::read_algorithm;
 use algorithms::AlgorithmFault;
 use std::test::Fail;
 
 /// Texts that are read, and those that ask for much or of which a line is at fault.
-const READ: [&str; 4] = [
+const READ: [&str; 5] = [
     bad_texts::BAD,
     bad_texts::GOOD,
+    details::DETAILS,
     hostile_texts::HOSTILE,
     hostile_texts::LONG,
 ];
@@ -59,7 +60,7 @@ const SAID: [&str; 10] = [
 ];
 
 /// What texts spell.
-const SPELLED: [&str; 10] = [
+const SPELLED: [&str; 11] = [
     arrays::HOMES,
     arrays::SPELLED,
     constants::SPELLED,
@@ -69,6 +70,7 @@ const SPELLED: [&str; 10] = [
     loops::SPELLED,
     spelling::BAKERY,
     spelling::SPACED,
+    step_bounds::SPELLED,
     swaps::SPELLED,
 ];
 
@@ -189,6 +191,7 @@ fn texts_are_spelled(rt: HostRuntime) -> Result<(), Fail> {
     which_states_are_one();
     lines_make_blocks();
     tokens_are_read_as_said();
+    tokens_are_at_their_places();
     a_text_without_values_begins_at_zero();
     for table in SPELLED {
         compare_cases(rt.alloc(), table)?;

@@ -2,6 +2,7 @@
 
 use crate::support::text_named;
 use algorithm_texts::{WritingFault, read_algorithm, write_algorithm};
+use algorithms::Expression;
 use std::alloc::Global;
 use std::fmt::Write;
 use std::process::Abort;
@@ -17,7 +18,7 @@ bounded golab_ramaraju yang_anderson homes clh corner golab_ramaraju_tournament 
 table filter stairs bounded_peterson bounded_test_and_set bounded_ticket hurried_ticket \
 instant_test_and_set mcs_exit_3 ticket_exit_1 ticket_exit_2 begun_ticket claimed_ticket kept_ticket \
 linked_mcs unlinked_mcs crossed_flags fair_test_and_set free_test_and_set mcs_no_wait \
-jayanti_jayanti_joshi jayanti_jayanti_joshi_two_nodes semaphore_2";
+jayanti_jayanti_joshi jayanti_jayanti_joshi_two_nodes semaphore_2 clearing hasty_clearing squared";
 
 /// A text as it is written: blocks that end in lines to which no run comes, gotos at the end of an `if`, and brackets.
 const BLOCKS: &str = "algorithm blocks for 2 to 4 processes
@@ -101,7 +102,7 @@ call unlock
 
 /// A text as it is written: bounds on own steps, sizes, homes, words of tables, and loops over numbers.
 const EXTENTS: &str = "algorithm extents for 2 to 8 processes
-promises exclusion, reentry, order, exit within 3, recovery within 18446744073709551615, doorway within 0
+promises exclusion, reentry, order, exit within max(procs, 3) - 1, recovery within 18446744073709551615 / (limit + 1), doorway within 2 * (procs - 1)
 constant two = 2
 shared row[procs + 1] up to (procs + 1) * 2 starts owner * 2 at owner - 1
 shared grid[2 * (procs - 1)][max(procs, limit) - 1] up to 9 at min(owner / 2, 1)
@@ -234,14 +235,16 @@ fn promises_are_written_in_one_order(rt: HostRuntime) -> Result<(), Fail> {
     Ok(())
 }
 
-/// Whether the writing is refused of `peterson` without its last line, of `named` without first values, or of another algorithm
-/// without the last of these.
+/// Whether the writing is refused of `peterson` without its last line, of `named` without first values, of `clearing` with a bound
+/// that names a process, or of another algorithm without the last of its first values.
 fn is_refused(alloc: Global, name: &str) -> Result<bool, Fail> {
     let mut initialized = read_algorithm(alloc, text_named(name))?;
     if name == "peterson" {
         initialized.algorithm.lines.pop();
     } else if name == "named" {
         initialized.first_values = None;
+    } else if name == "clearing" {
+        initialized.algorithm.step_bounds.recovery = Some(Expression::Me);
     } else if let Some(values) = &mut initialized.first_values {
         values.starts.pop();
     }
@@ -251,7 +254,7 @@ fn is_refused(alloc: Global, name: &str) -> Result<bool, Fail> {
 /// Where a constant is named or a first value is said, all algorithms of the text have first values.
 #[test]
 fn what_no_text_spells_is_refused(rt: HostRuntime) -> Result<(), Fail> {
-    for name in ["peterson", "named", "seats"] {
+    for name in ["peterson", "named", "clearing", "seats"] {
         assert!(rt; is_refused(rt.alloc(), name)?, "{name}");
     }
     Ok(())

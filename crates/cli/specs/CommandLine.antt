@@ -78,7 +78,7 @@ abbrev pub hunt : Shape
 hunt = part (codes "hunt") (
     variant ∷ algorithm ∷ number (codes "procs") ∷ number (codes "limit") ∷ required_rule (number (codes "seed")) ∷ number (codes "first-round")
     ∷ required_rule (number (codes "rounds"))
-    ∷ required_rule (number (codes "steps")) ∷ flag (codes "shrink") ∷ number (codes "jobs") ∷ [])
+    ∷ required_rule (number (codes "steps")) ∷ number (codes "system-crashes") ∷ flag (codes "shrink") ∷ number (codes "jobs") ∷ [])
 
 abbrev pub explore : Shape
 explore = part (codes "explore") (
@@ -88,7 +88,7 @@ explore = part (codes "explore") (
 
 abbrev pub cost : Shape
 cost = part (codes "cost") (
-    required_rule algorithm ∷ required_rule (option (codes "model")) ∷ flag (codes "super-passages") ∷ required_rule (number (codes "procs"))
+    variant ∷ algorithm ∷ required_rule (option (codes "model")) ∷ flag (codes "super-passages") ∷ required_rule (number (codes "procs"))
     ∷ option (codes "calls") ∷ number (codes "crashes") ∷ number (codes "system-crashes") ∷ number (codes "states") ∷ number (codes "limit")
     ∷ flag (codes "mean") ∷ number (codes "seed") ∷ number (codes "rounds") ∷ number (codes "steps") ∷ [])
 

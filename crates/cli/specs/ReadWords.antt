@@ -7,10 +7,11 @@ use Rattle.std.specs.declared.alloc.Global.{Global}
 use Rattle.clap.specs.Words.{Text, first_of, subcommand_of, fault_of, IsAmong}
 use Rattle.clap.specs.declared.error.kind.ErrorKind.{ErrorKind}
 use Rattle.clap.specs.declared.error.kind.ErrorKind.TheVariants as kinds
+use Rattle.crashlab.specs.declared.hunts.random_moves.RandomMoves.{RandomMoves}
 use Rattle.crashlab.specs.declared.variants.variant.Variant.{Variant}
 use Rattle.crashlab.specs.declared.variants.variant.Variant.TheVariants.{Right}
 use Rattle.cli.specs.declared.arguments.args.Command.{Command}
-use Rattle.cli.specs.declared.arguments.args.Command.TheVariants.{Replay, ReplayAlgorithm, Run, Hunt, HuntAlgorithm, Explore, ExploreAlgorithm, Cost, MeanCost, Export, States, StatesAlgorithm, Judge, Draw, DrawAlgorithm, Shrink, ShrinkAlgorithm, Step, StepAlgorithm, Explain}
+use Rattle.cli.specs.declared.arguments.args.Command.TheVariants.{Replay, ReplayAlgorithm, Run, Hunt, HuntAlgorithm, Explore, ExploreAlgorithm, Cost, CostVariant, MeanCost, Export, States, StatesAlgorithm, Judge, Draw, DrawAlgorithm, Shrink, ShrinkAlgorithm, Step, StepAlgorithm, Explain}
 use Rattle.cli.specs.declared.arguments.args.ReplayArgs.{ReplayArgs}
 use Rattle.cli.specs.declared.arguments.args.AlgorithmReplayArgs.{AlgorithmReplayArgs}
 use Rattle.cli.specs.declared.arguments.args.RunArgs.{RunArgs}
@@ -19,6 +20,7 @@ use Rattle.cli.specs.declared.arguments.args.AlgorithmHuntArgs.{AlgorithmHuntArg
 use Rattle.cli.specs.declared.arguments.args.ExploreArgs.{ExploreArgs}
 use Rattle.cli.specs.declared.arguments.args.AlgorithmExploreArgs.{AlgorithmExploreArgs}
 use Rattle.cli.specs.declared.arguments.args.CostArgs.{CostArgs}
+use Rattle.cli.specs.declared.arguments.args.VariantCostArgs.{VariantCostArgs}
 use Rattle.cli.specs.declared.arguments.args.MeanCostArgs.{MeanCostArgs}
 use Rattle.cli.specs.declared.arguments.args.ExportArgs.{ExportArgs}
 use Rattle.cli.specs.declared.arguments.args.StreamArgs.{StreamArgs}
@@ -36,7 +38,7 @@ use Rattle.cli.specs.declared.explain.dictionary_entry.DictionaryEntry.{Dictiona
 use Rattle.cli.specs.CommandLine.{rmelab}
 use Rattle.cli.specs.Given.{Given, AsksFor, AsksForNone, is_set, number_or, calls_of, alphabet_of, is_call, algorithm_calls_in, are_algorithm_calls, entry_named, AsksForCycles, AsksForNoCycles, AsksForTool, AsksForNoTool, AsksForModel, AsksForNoModel, kind_asked}
 use Rattle.cli.specs.Names.{name_of}
-use Rattle.cli.specs.Sizes.{RunFits, IsHuntSize}
+use Rattle.cli.specs.Sizes.{RunFits, IsHuntSize, AreHuntNumbers}
 
 -- ---- the arguments of a command, by what is given to it
 
@@ -79,16 +81,19 @@ run_of given = record {
 abbrev pub rounds_of : Given → ℕ
 rounds_of given = number_or 0 (codes "rounds") given
 
--- the moves of each round
-abbrev pub steps_of : Given → ℕ
-steps_of given = number_or 0 (codes "steps") given
+-- the random moves of each round
+abbrev pub moves_of : Given → RandomMoves
+moves_of given = record {
+  seed = number_or 0 (codes "seed") given;
+  steps = number_or 0 (codes "steps") given;
+  system_crashes = number_or 0 (codes "system-crashes") given;
+}
 
 pub record IsHunt (given : Given) (args : HuntArgs) : Type 0 where
   pub variant : AsksFor [] given args.variant
-  pub seed : args.seed ≡ number_or 0 (codes "seed") given
+  pub moves : args.moves ≡ moves_of given
   pub first_round : args.first_round ≡ number_or 0 (codes "first-round") given
   pub rounds : args.rounds ≡ rounds_of given
-  pub steps : args.steps ≡ steps_of given
   pub shrink : args.shrink ≡ is_set (codes "shrink") given
   pub jobs : args.jobs ≡ number_or 0 (codes "jobs") given
   pub no_algorithm : IsNone (first_of (codes "algorithm") given)
@@ -101,10 +106,9 @@ pub record IsAlgorithmHunt (given : Given) (args : AlgorithmHuntArgs) : Type 0 w
   pub no_variant : IsNone (first_of (codes "variant") given)
   pub procs : args.procs ≡ number_or 2 (codes "procs") given
   pub limit : args.limit ≡ number_or 1000000 (codes "limit") given
-  pub seed : args.seed ≡ number_or 0 (codes "seed") given
+  pub moves : args.moves ≡ moves_of given
   pub first_round : args.first_round ≡ number_or 0 (codes "first-round") given
   pub rounds : args.rounds ≡ rounds_of given
-  pub steps : args.steps ≡ steps_of given
   pub shrink : args.shrink ≡ is_set (codes "shrink") given
   pub jobs : args.jobs ≡ number_or 0 (codes "jobs") given
 
@@ -180,6 +184,12 @@ pub record IsCostSearch (given : Given) : Type 0 where
 -- the schedules are those of the search that `explore` makes of the same options
 pub record AsksForCost (given : Given) (args : CostArgs) : Type 0 where
   pub search : IsAlgorithmExplore given args.search
+  pub model : AsksForModel given args.model
+  pub kind : args.kind ≡ kind_asked given
+  pub options : HasNoRounds given
+
+pub record AsksForVariantCost (given : Given) (args : VariantCostArgs) : Type 0 where
+  pub search : IsExplore given args.search
   pub model : AsksForModel given args.model
   pub kind : args.kind ≡ kind_asked given
   pub options : HasNoRounds given
@@ -271,6 +281,7 @@ IsCommand name given (HuntAlgorithm args) = (name ≡ codes "hunt") × IsAlgorit
 IsCommand name given (Explore args) = (name ≡ codes "explore") × IsExplore given args
 IsCommand name given (ExploreAlgorithm args) = (name ≡ codes "explore") × IsAlgorithmExplore given args
 IsCommand name given (Cost args) = (name ≡ codes "cost") × AsksForCost given args
+IsCommand name given (CostVariant args) = (name ≡ codes "cost") × AsksForVariantCost given args
 IsCommand name given (MeanCost args) = (name ≡ codes "cost") × AsksForMeanCost given args
 IsCommand name given (Export args) = (name ≡ codes "export") × AsksForModelOf given args
 IsCommand name given (States args) = (name ≡ codes "states") × IsStates given args
@@ -306,11 +317,10 @@ TakesImage name = (name ≡ codes "replay") ⊎ (name ≡ codes "draw")
 
 -- the command wants a variant or an algorithm
 abbrev pub NeedsLock : Text → Type 0
-NeedsLock name = (name ≡ codes "hunt") ⊎ ((name ≡ codes "explore") ⊎ ((name ≡ codes "shrink") ⊎ (name ≡ codes "states")))
+NeedsLock name = (name ≡ codes "hunt") ⊎ ((name ≡ codes "explore") ⊎ ((name ≡ codes "shrink") ⊎ ((name ≡ codes "states") ⊎ (name ≡ codes "cost"))))
 
 abbrev pub HasBadVariant : Text → Given → Type 0
-HasBadVariant name given =
-    (TakesImage name × (IsBadBesideImage given ⊎ IsBesideAlgorithm given)) ⊎ (NeedsLock name × IsBadVariant given)
+HasBadVariant name given = (TakesImage name × (IsBadBesideImage given ⊎ IsBesideAlgorithm given)) ⊎ (NeedsLock name × IsBadVariant given)
 
 -- a search for stuck states is given a bound on moves
 abbrev pub IsStuckWithin : Given → Type 0
@@ -327,8 +337,7 @@ IsBadSearch given =
 
 -- a call of an algorithm's search is none of an algorithm, or the same of its bound and its cycles
 abbrev pub IsBadAlgorithmSearch : Given → Type 0
-IsBadAlgorithmSearch given =
-    IsAlgorithmSearch given × ((are_algorithm_calls given ≡ false) ⊎ (IsStuckWithin given ⊎ IsBadStarving given))
+IsBadAlgorithmSearch given = IsAlgorithmSearch given × ((are_algorithm_calls given ≡ false) ⊎ (IsStuckWithin given ⊎ IsBadStarving given))
 
 -- there is something to search, and no such tool
 abbrev pub IsBadTool : Given → Type 0
@@ -343,8 +352,15 @@ abbrev pub IsBadMeanCost : Given → Type 0
 IsBadMeanCost given = HasNoSearch given × (IsHuntSize (cost_rounds_of given) (cost_steps_of given) → ⊥)
 
 -- there is an algorithm whose costs are asked for, and a call or a number is bad, or there is no such model
+abbrev pub IsBadAlgorithmCost : Given → Type 0
+IsBadAlgorithmCost given = IsCostSearch given × (AsksForNoModel given ⊎ (IsBadGreatestCost given ⊎ IsBadMeanCost given))
+
+-- the greatest cost of a variant is asked for, and a call is bad, or there is no such model
+abbrev pub IsBadVariantCost : Given → Type 0
+IsBadVariantCost given = HasNoRounds given × IsSome (first_of (codes "variant") given) × (AsksForNoModel given ⊎ IsBadSearch given)
+
 abbrev pub IsBadCost : Given → Type 0
-IsBadCost given = IsCostSearch given × (AsksForNoModel given ⊎ (IsBadGreatestCost given ⊎ IsBadMeanCost given))
+IsBadCost given = IsBadAlgorithmCost given ⊎ IsBadVariantCost given
 
 -- a size of its worlds is given to a hunt
 abbrev pub HasWorldSize : Given → Type 0
@@ -352,11 +368,11 @@ HasWorldSize given = IsSome (first_of (codes "procs") given) ⊎ IsSome (first_o
 
 -- the numbers of a variant's hunt are outside their ranges, or one too many
 abbrev pub IsBadHunt : Given → Type 0
-IsBadHunt given = IsSome (first_of (codes "variant") given) × ((IsHuntSize (rounds_of given) (steps_of given) → ⊥) ⊎ HasWorldSize given)
+IsBadHunt given = IsSome (first_of (codes "variant") given) × ((AreHuntNumbers (rounds_of given) (moves_of given) → ⊥) ⊎ HasWorldSize given)
 
 -- the numbers of an algorithm's hunt are outside their ranges
 abbrev pub IsBadAlgorithmHunt : Given → Type 0
-IsBadAlgorithmHunt given = IsSome (first_of (codes "algorithm") given) × (IsHuntSize (rounds_of given) (steps_of given) → ⊥)
+IsBadAlgorithmHunt given = IsSome (first_of (codes "algorithm") given) × (AreHuntNumbers (rounds_of given) (moves_of given) → ⊥)
 
 -- a number is outside its range, or a hunt, a search or a tool is bad
 abbrev pub IsOutOfRange : Text → Given → Type 0
@@ -384,9 +400,9 @@ HasNoLock name given = IsNone (first_of (codes "variant") given)
     ⊎ (((name ≡ codes "shrink") × IsNone (first_of (codes "algorithm") given))
     ⊎ ((name ≡ codes "states") × (IsAlgorithmSearch given → ⊥)))))
 
--- there is no algorithm whose costs are asked for, or an option is given that the command does not have for one, or for what is asked
-abbrev pub HasNoAlgorithm : Text → Given → Type 0
-HasNoAlgorithm name given = (name ≡ codes "cost") × (IsCostSearch given → ⊥)
+-- nothing whose costs are asked for is given, or an option that the command does not have for it
+abbrev pub HasNoCosts : Text → Given → Type 0
+HasNoCosts name given = (name ≡ codes "cost") × ((IsNone (first_of (codes "variant") given) × (IsCostSearch given → ⊥)) ⊎ (IsSome (first_of (codes "variant") given) × (IsBadVariant given → ⊥) × (HasNoRounds given → ⊥)))
 
 -- there is no algorithm whose model is asked for
 abbrev pub HasNoExport : Text → Given → Type 0
@@ -394,7 +410,7 @@ HasNoExport name given = (name ≡ codes "export") × IsNone (first_of (codes "p
 
 -- words that `clap` takes are refused as it refuses words
 abbrev pub HasBadWords : Text → Given → Type 0
-HasBadWords name given = HasNoEntry name given ⊎ (HasNoLock name given ⊎ (HasNoAlgorithm name given ⊎ HasNoExport name given))
+HasBadWords name given = HasNoEntry name given ⊎ (HasNoLock name given ⊎ (HasNoCosts name given ⊎ HasNoExport name given))
 
 -- out of memory comes at any time
 abbrev pub IsFault : Text → Given → WordsFault → Type 0

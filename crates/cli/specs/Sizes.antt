@@ -1,7 +1,8 @@
 -- The ranges of the program's numbers (Limits of docs/theory/model.md).
 use Rattle.std.specs.Prelude.{◌≤◌, ◌+◌, ℕ}
+use Rattle.crashlab.specs.declared.hunts.random_moves.RandomMoves.{RandomMoves}
 use Rattle.cli.specs.declared.arguments.args.Command.{Command}
-use Rattle.cli.specs.declared.arguments.args.Command.TheVariants.{Replay, ReplayAlgorithm, Run, Hunt, HuntAlgorithm, Explore, ExploreAlgorithm, Cost, MeanCost, Export, States, StatesAlgorithm, Judge, Draw, DrawAlgorithm, Shrink, ShrinkAlgorithm, Step, StepAlgorithm, Explain}
+use Rattle.cli.specs.declared.arguments.args.Command.TheVariants.{Replay, ReplayAlgorithm, Run, Hunt, HuntAlgorithm, Explore, ExploreAlgorithm, Cost, CostVariant, MeanCost, Export, States, StatesAlgorithm, Judge, Draw, DrawAlgorithm, Shrink, ShrinkAlgorithm, Step, StepAlgorithm, Explain}
 use Rattle.cli.specs.declared.arguments.args.HuntArgs.{HuntArgs}
 use Rattle.cli.specs.declared.arguments.args.RunArgs.{RunArgs}
 
@@ -9,13 +10,17 @@ use Rattle.cli.specs.declared.arguments.args.RunArgs.{RunArgs}
 abbrev pub IsHuntSize : ℕ → ℕ → Type 0
 IsHuntSize rounds steps = ((1 ≤ rounds) × (rounds ≤ 10000)) × (1 ≤ steps) × (steps ≤ 10000)
 
+-- the same of a hunt with its crashes of all processes, which are counted in 1,000 moves
+abbrev pub AreHuntNumbers : ℕ → RandomMoves → Type 0
+AreHuntNumbers rounds moves = IsHuntSize rounds moves.steps × (moves.system_crashes ≤ 1000)
+
 -- the same of a hunt that begins with this round: the number of its last round is in its range too
-abbrev pub IsHuntPart : ℕ → ℕ → ℕ → Type 0
-IsHuntPart first rounds steps = IsHuntSize rounds steps × (first + rounds ≤ 10000)
+abbrev pub IsHuntPart : ℕ → ℕ → RandomMoves → Type 0
+IsHuntPart first rounds moves = AreHuntNumbers rounds moves × (first + rounds ≤ 10000)
 
 -- the numbers of a hunt are in their ranges
 abbrev pub HuntFits : HuntArgs → Type 0
-HuntFits args = IsHuntPart args.first_round args.rounds args.steps
+HuntFits args = IsHuntPart args.first_round args.rounds args.moves
 
 -- the processes, the messages of each, the crashes in 1,000 askings, and the words of a message
 abbrev pub RunFits : RunArgs → Type 0
@@ -26,11 +31,12 @@ abbrev pub IsInRanges : Command → Type 0
 IsInRanges (Replay args) = Unit {0}
 IsInRanges (ReplayAlgorithm args) = Unit {0}
 IsInRanges (Run args) = RunFits args
-IsInRanges (Hunt args) = IsHuntSize args.rounds args.steps
-IsInRanges (HuntAlgorithm args) = IsHuntSize args.rounds args.steps
+IsInRanges (Hunt args) = AreHuntNumbers args.rounds args.moves
+IsInRanges (HuntAlgorithm args) = AreHuntNumbers args.rounds args.moves
 IsInRanges (Explore args) = Unit {0}
 IsInRanges (ExploreAlgorithm args) = Unit {0}
 IsInRanges (Cost args) = Unit {0}
+IsInRanges (CostVariant args) = Unit {0}
 IsInRanges (MeanCost args) = IsHuntSize args.rounds args.steps
 IsInRanges (Export args) = Unit {0}
 IsInRanges (States args) = Unit {0}

@@ -1,5 +1,8 @@
 -- The faults of an algorithm's text and of its runs, as faults of a command.
-use Rattle.std.specs.Prelude.{ℕ, List, codes, unwrap_or}
+use Rattle.std.specs.Prelude.{ℕ, List, [], ◌++◌, codes, Option, Some, None, option_and_then, unwrap_or}
+use Rattle.std.specs.Fmt.{decimal}
+use Rattle.algorithm_texts.specs.declared.fault_details.FaultDetail.{FaultDetail}
+use Rattle.algorithm_texts.specs.declared.fault_details.FaultDetail.TheVariants as details
 use Rattle.algorithms.specs.declared.fault.ReadFault.{ReadFault}
 use Rattle.algorithms.specs.declared.fault.ReadFault.TheVariants as texts
 use Rattle.cli.specs.Names.{number_of_algorithm_fault}
@@ -29,3 +32,57 @@ sentence_of texts.TooBig = codes "a limit is passed"
 sentence_of texts.BadCall = codes "the calls do not fit together"
 sentence_of texts.NeverReached = codes "no run comes to this line"
 sentence_of texts.OutOfMemory = codes "out of memory"
+
+-- ---- what is said more
+
+-- the column at which it is
+abbrev pub column_of_detail : FaultDetail → Option ℕ
+column_of_detail (details.Tab column) = Some column
+column_of_detail (details.CarriageReturn column) = Some column
+column_of_detail (details.Unprintable column) = Some column
+column_of_detail (details.NoToken column) = Some column
+column_of_detail (details.LeadingZero column) = Some column
+column_of_detail (details.LargeNumber column) = Some column
+column_of_detail (details.LongName column) = Some column
+column_of_detail details.LongLine = Some 1001
+column_of_detail details.NoThen = None
+column_of_detail (details.WrongIndexes column declared given) = Some column
+column_of_detail (details.ReservedWord column) = Some column
+column_of_detail (details.NoEnd line) = None
+column_of_detail details.NoBlock = None
+column_of_detail details.NoIf = None
+
+-- what it says, where no number belongs to it
+abbrev pub words_of_detail : FaultDetail → List ℕ
+words_of_detail (details.Tab column) = codes "a tab"
+words_of_detail (details.CarriageReturn column) = codes "a carriage return: a line ends with LF alone"
+words_of_detail (details.Unprintable column) = codes "a byte that is not printable ASCII"
+words_of_detail (details.NoToken column) = codes "a character of no word, number or sign"
+words_of_detail (details.LeadingZero column) = codes "a number with a leading zero"
+words_of_detail (details.LargeNumber column) = codes "a number above 18446744073709551615"
+words_of_detail (details.LongName column) = codes "a name of more than 32 characters"
+words_of_detail details.LongLine = codes "a line of more than 1000 characters"
+words_of_detail details.NoThen = codes "an `if` without `then`"
+words_of_detail (details.WrongIndexes column declared given) = []
+words_of_detail (details.ReservedWord column) = codes "a word of the format as a name"
+words_of_detail (details.NoEnd line) = []
+words_of_detail details.NoBlock = codes "an `end` without a block"
+words_of_detail details.NoIf = codes "an `else` without an `if`"
+
+abbrev pub text_of_detail : FaultDetail → List ℕ
+text_of_detail (details.WrongIndexes column declared given) = codes "indexes given: " ++ decimal given ++ codes ", declared: " ++ decimal declared
+text_of_detail (details.NoEnd line) = codes "no `end` for the block of line " ++ decimal line
+text_of_detail other = words_of_detail other
+
+-- the column after the line's number
+abbrev pub text_of_column : Option ℕ → List ℕ
+text_of_column None = []
+text_of_column (Some column) = codes ", column " ++ decimal column
+
+abbrev pub column_text : Option FaultDetail → List ℕ
+column_text detail = text_of_column (option_and_then column_of_detail detail)
+
+-- what is said more, or else the sentence of the fault
+abbrev pub sentence_with : ReadFault → Option FaultDetail → List ℕ
+sentence_with fault None = sentence_of fault
+sentence_with fault (Some detail) = text_of_detail detail

@@ -12,3 +12,4 @@ pub mod Shown
 pub mod StateTexts
 pub mod StatesFaults
 pub mod Statuses
+pub mod Costs

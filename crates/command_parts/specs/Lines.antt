@@ -2,7 +2,7 @@
 use Rattle.std.specs.Prelude.{◌≡◌, ℕ, ◌+◌, ◌-◌, ◌^◌, ◌⊎◌, min, List, [], ◌∷◌, ◌++◌, codes}
 use Rattle.std.specs.Fmt.{decimal}
 use Rattle.command_parts.specs.declared.fault.CommandFault.TheVariants.{Text, Refused, OutOfRange, Image, Algorithm, BadVariant, BadSize, Read, Write, OutOfMemory, Member, TooManyStates, States}
-use Rattle.command_parts.specs.AlgorithmFaults.{number_of_text_fault, sentence_of}
+use Rattle.command_parts.specs.AlgorithmFaults.{column_text, number_of_text_fault, sentence_with}
 use Rattle.command_parts.specs.StatesFaults.{number_of_states_fault, sentence_of_states_fault}
 use Rattle.schedule.specs.Words.{line_of}
 use Rattle.schedule.specs.Tapes.{Begins, Tape, Writes}
@@ -20,9 +20,9 @@ words_of_fault (OutOfRange line algorithm_line) =
     codes "line" ∷ (decimal line ++ codes ":") ∷ codes "refused" ∷ codes "16:" ∷ codes "out" ∷ codes "of" ∷ codes "range" ∷ codes "at"
     ∷ codes "algorithm" ∷ codes "line" ∷ decimal algorithm_line ∷ []
 words_of_fault (Image rule) = codes "image:" ∷ codes "rule" ∷ decimal rule ∷ []
-words_of_fault (Algorithm line fault) =
-    codes "algorithm" ∷ codes "line" ∷ (decimal line ++ codes ":") ∷ codes "fault" ∷ (decimal (number_of_text_fault fault) ++ codes ":")
-    ∷ sentence_of fault ∷ []
+words_of_fault (Algorithm line fault detail) =
+    codes "algorithm" ∷ codes "line" ∷ (decimal line ++ column_text detail ++ codes ":") ∷ codes "fault"
+    ∷ (decimal (number_of_text_fault fault) ++ codes ":") ∷ sentence_with fault detail ∷ []
 words_of_fault (States line fault) =
     codes "states" ∷ codes "line" ∷ (decimal line ++ codes ":") ∷ codes "fault" ∷ (decimal (number_of_states_fault fault) ++ codes ":")
     ∷ sentence_of_states_fault fault ∷ []

@@ -2,8 +2,9 @@
 
 ghost use Rattle.std.specs.Prelude.{◌≡◌, ◌≤◌, length, Some};
 ghost use Rattle.cli.specs.Names.{number_of_algorithm_fault};
-ghost use Rattle.command_parts.specs.AlgorithmFaults.{number_of_text_fault, sentence_of};
+ghost use Rattle.command_parts.specs.AlgorithmFaults.{column_of_detail, number_of_text_fault, sentence_of, words_of_detail};
 
+use algorithm_texts::FaultDetail;
 use algorithms::ReadFault;
 
 /// The number of a fault of an algorithm's text.
@@ -58,6 +59,50 @@ pub fn sentence_of(fault: ReadFault) -> &'static str
         ReadFault::BadCall => "the calls do not fit together",
         ReadFault::NeverReached => "no run comes to this line",
         ReadFault::OutOfMemory => "out of memory",
+    }
+}
+
+/// The column that a detail names.
+pub(crate) fn column_of_detail(detail: FaultDetail) -> Option<u64>
+    ensures { result ≡ column_of_detail detail }
+{
+    match detail {
+        FaultDetail::Tab { column }
+        | FaultDetail::CarriageReturn { column }
+        | FaultDetail::Unprintable { column }
+        | FaultDetail::NoToken { column }
+        | FaultDetail::LeadingZero { column }
+        | FaultDetail::LargeNumber { column }
+        | FaultDetail::LongName { column }
+        | FaultDetail::WrongIndexes { column, .. }
+        | FaultDetail::ReservedWord { column } => Some(column),
+        FaultDetail::LongLine => Some(1001),
+        FaultDetail::NoThen
+        | FaultDetail::NoEnd { .. }
+        | FaultDetail::NoBlock
+        | FaultDetail::NoIf => None,
+    }
+}
+
+/// What a detail says, where no number belongs to it.
+pub(crate) fn words_of_detail(detail: FaultDetail) -> &'static str
+    ensures words { result.now ≡ words_of_detail detail }
+    ensures few { length result.now ≤ 54 }
+{
+    match detail {
+        FaultDetail::Tab { .. } => "a tab",
+        FaultDetail::CarriageReturn { .. } => "a carriage return: a line ends with LF alone",
+        FaultDetail::Unprintable { .. } => "a byte that is not printable ASCII",
+        FaultDetail::NoToken { .. } => "a character of no word, number or sign",
+        FaultDetail::LeadingZero { .. } => "a number with a leading zero",
+        FaultDetail::LargeNumber { .. } => "a number above 18446744073709551615",
+        FaultDetail::LongName { .. } => "a name of more than 32 characters",
+        FaultDetail::LongLine => "a line of more than 1000 characters",
+        FaultDetail::NoThen => "an `if` without `then`",
+        FaultDetail::ReservedWord { .. } => "a word of the format as a name",
+        FaultDetail::WrongIndexes { .. } | FaultDetail::NoEnd { .. } => "",
+        FaultDetail::NoBlock => "an `end` without a block",
+        FaultDetail::NoIf => "an `else` without an `if`",
     }
 }
 

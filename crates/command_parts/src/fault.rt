@@ -5,6 +5,7 @@ ghost use Rattle.command_parts.specs.declared.fault.CommandFault.TheVariants.{Ou
 ghost use Rattle.command_parts.specs.Statuses.{fault_of_replay, fault_of_text};
 
 use crate::states::states_fault::StatesFault;
+use algorithm_texts::FaultDetail;
 use algorithms::ReadFault;
 use schedule::{OutOfMemory as NoMemory, ReplayFault, TextFault};
 use std::alloc::{AllocError, AllocFailed};
@@ -15,22 +16,40 @@ use thiserror::Error;
 pub enum CommandFault {
     /// This line of the text can't be read; lines count from 1. The number is that of the line's fault.
     #[error("line {line}: fault {number}")]
-    Text { line: u64, number: u64 },
+    Text {
+        line: u64,
+        number: u64,
+    },
     /// The world refuses this line. The number is that of the refusal.
     #[error("line {line}: refused {number}")]
-    Refused { line: u64, number: u64 },
+    Refused {
+        line: u64,
+        number: u64,
+    },
     /// The world of an algorithm refuses this line, since a value would leave its range at this line of the algorithm's text.
     #[error("line {line}: refused 16: out of range at algorithm line {algorithm_line}")]
-    OutOfRange { line: u64, algorithm_line: u64 },
+    OutOfRange {
+        line: u64,
+        algorithm_line: u64,
+    },
     /// The image breaks this rule.
     #[error("image: rule {rule}")]
-    Image { rule: u64 },
-    /// This line of the algorithm's text is at fault; lines count from 1.
+    Image {
+        rule: u64,
+    },
+    /// This line of the algorithm's text is at fault; lines count from 1. More may be said of it.
     #[error("algorithm line {line}: {fault}")]
-    Algorithm { line: u64, fault: ReadFault },
+    Algorithm {
+        line: u64,
+        fault: ReadFault,
+        detail: Option<FaultDetail>,
+    },
     /// This line of a text of states is at fault; lines count from 1.
     #[error("states line {line}: {fault}")]
-    States { line: u64, fault: StatesFault },
+    States {
+        line: u64,
+        fault: StatesFault,
+    },
     /// There is no such variant, it isn't `right` beside an image, or it, an image or a file for the last image is beside an
     /// algorithm.
     #[error("bad variant")]
@@ -49,7 +68,9 @@ pub enum CommandFault {
     OutOfMemory,
     /// This sender of a run could not go on.
     #[error("member {p} failed")]
-    Member { p: u64 },
+    Member {
+        p: u64,
+    },
     /// A search has reached more states than it may keep.
     #[error("too many states")]
     TooManyStates,

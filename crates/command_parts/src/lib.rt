@@ -6,6 +6,7 @@
 
 pub mod algorithm_fault;
 pub mod conversation;
+pub mod costs;
 pub mod ending;
 pub mod fault;
 pub mod findings;

@@ -2,14 +2,18 @@
 
 ghost use Rattle.std.specs.Prelude.{◌≡◌, ◌+◌, ◌<◌, ◌≤◌, ◌/◌, ◌++◌, ◌∷◌, [], codes, length};
 ghost use Rattle.std.specs.Fmt.{decimal};
+ghost use Rattle.command_parts.specs.AlgorithmFaults.{column_text, sentence_with, text_of_detail};
 ghost use Rattle.command_parts.specs.Lines.{fault_line, IsLineWritten};
 ghost use Rattle.command_parts.specs.Findings.{starves_line as starves_line_by};
 ghost use Rattle.command_parts.specs.declared.fault.CommandFault.TheVariants.{Algorithm as AlgorithmFault, OutOfRange, States as StatesFaultAt};
 ghost use Rattle.command_parts.specs.Statuses.{status_of};
 
-use crate::algorithm_fault::{number_of_text_fault, sentence_of};
+use crate::algorithm_fault::{
+    column_of_detail, number_of_text_fault, sentence_of, words_of_detail,
+};
 use crate::fault::CommandFault;
 use crate::states::states_fault::StatesFault;
+use algorithm_texts::FaultDetail;
 use algorithms::ReadFault;
 use arrayvec::ArrayString;
 use itoa::Buffer;
@@ -17,8 +21,8 @@ use schedule::Sink;
 use schedule::texts::device::write_all;
 
 /// Appends a text and then a number to a line.
-pub fn put(line: &mut ArrayString<128>, text: &str, number: u64)
-    requires { length line.old.bytes + length text.now + 20 ≤ 128 }
+pub fn put(line: &mut ArrayString<192>, text: &str, number: u64)
+    requires { length line.old.bytes + length text.now + 20 ≤ 192 }
     ensures bytes { line.new.bytes ≡ line.old.bytes ++ text.now ++ decimal number }
     ensures few { length line.new.bytes ≤ length line.old.bytes + length text.now + 20 }
 {
@@ -27,7 +31,7 @@ pub fn put(line: &mut ArrayString<128>, text: &str, number: u64)
 }
 
 /// The line for a fault of an input line.
-fn line_of_place(at: u64, cause: &str, number: u64) -> ArrayString<128>
+fn line_of_place(at: u64, cause: &str, number: u64) -> ArrayString<192>
     requires { length cause.now ≤ 20 }
     ensures { result.bytes ≡ codes "rmelab: line " ++ decimal at ++ cause.now ++ decimal number ++ 10 ∷ [] }
 {
@@ -38,8 +42,8 @@ fn line_of_place(at: u64, cause: &str, number: u64) -> ArrayString<128>
     line
 }
 
-/// The line for a fault of a line of a text or of states, with the sentence that says what is wrong.
-fn line_with_sentence(before: &str, at: u64, number: u64, sentence: &str) -> ArrayString<128>
+/// The line for a fault of a line of states, with the sentence that says what is wrong.
+fn line_with_sentence(before: &str, at: u64, number: u64, sentence: &str) -> ArrayString<192>
     requires { (length before.now ≤ 23) × (length sentence.now ≤ 54) }
     ensures { result.bytes ≡ before.now ++ decimal at ++ codes ": fault " ++ decimal number ++ codes ": " ++ sentence.now ++ 10 ∷ [] }
 {
@@ -53,7 +57,7 @@ fn line_with_sentence(before: &str, at: u64, number: u64, sentence: &str) -> Arr
 }
 
 /// The line for an input line that is refused, since a value would leave its range at a line of the algorithm's text.
-fn line_of_range(at: u64, algorithm_line: u64) -> ArrayString<128>
+fn line_of_range(at: u64, algorithm_line: u64) -> ArrayString<192>
     ensures { result.bytes ≡ fault_line (OutOfRange at algorithm_line) }
 {
     let mut line = ArrayString::new();
@@ -67,23 +71,74 @@ fn line_of_range(at: u64, algorithm_line: u64) -> ArrayString<128>
     line
 }
 
-/// The line for a fault of a line of an algorithm's text.
-fn line_of_algorithm(at: u64, fault: ReadFault) -> ArrayString<128>
-    ensures { result.bytes ≡ fault_line (AlgorithmFault at fault) }
+/// Appends the column that a detail names.
+fn put_column(line: &mut ArrayString<192>, detail: Option<FaultDetail>)
+    requires { length line.old.bytes + 29 ≤ 192 }
+    ensures bytes { line.new.bytes ≡ line.old.bytes ++ column_text detail }
+    ensures few { length line.new.bytes ≤ length line.old.bytes + 29 }
 {
-    let number = number_of_text_fault(fault);
-    line_with_sentence("rmelab: algorithm line ", at, number, sentence_of(fault))
+    if let Some(detail) = detail {
+        if let Some(column) = column_of_detail(detail) {
+            put(line, ", column ", column);
+        }
+    }
+}
+
+/// Appends what a detail says.
+fn put_detail(line: &mut ArrayString<192>, detail: FaultDetail)
+    requires { length line.old.bytes + 74 ≤ 192 }
+    ensures bytes { line.new.bytes ≡ line.old.bytes ++ text_of_detail detail }
+    ensures few { length line.new.bytes ≤ length line.old.bytes + 74 }
+{
+    match detail {
+        FaultDetail::WrongIndexes {
+            declared,
+            given,
+            ..
+        } => {
+            put(line, "indexes given: ", given);
+            put(line, ", declared: ", declared);
+        }
+        FaultDetail::NoEnd { line: begun } => put(line, "no `end` for the block of line ", begun),
+        _ => line.push_str(words_of_detail(detail)),
+    }
+}
+
+/// Appends the sentence of a fault, or what is said more of it.
+fn put_sentence(line: &mut ArrayString<192>, fault: ReadFault, detail: Option<FaultDetail>)
+    requires { length line.old.bytes + 74 ≤ 192 }
+    ensures bytes { line.new.bytes ≡ line.old.bytes ++ sentence_with fault detail }
+    ensures few { length line.new.bytes ≤ length line.old.bytes + 74 }
+{
+    match detail {
+        Some(detail) => put_detail(line, detail),
+        None => line.push_str(sentence_of(fault)),
+    }
+}
+
+/// The line for a fault of a line of an algorithm's text.
+fn line_of_algorithm(at: u64, fault: ReadFault, detail: Option<FaultDetail>) -> ArrayString<192>
+    ensures { result.bytes ≡ fault_line (AlgorithmFault at fault detail) }
+{
+    let mut line = ArrayString::new();
+    put(&mut line, "rmelab: algorithm line ", at);
+    put_column(&mut line, detail);
+    put(&mut line, ": fault ", number_of_text_fault(fault));
+    line.push_str(": ");
+    put_sentence(&mut line, fault, detail);
+    line.push_str("\n");
+    line
 }
 
 /// The line for a fault of a line of states.
-fn line_of_states(at: u64, fault: StatesFault) -> ArrayString<128>
+fn line_of_states(at: u64, fault: StatesFault) -> ArrayString<192>
     ensures { result.bytes ≡ fault_line (StatesFaultAt at fault) }
 {
     line_with_sentence("rmelab: states line ", at, fault.number(), fault.sentence())
 }
 
 /// A line of a text, a number and a text.
-pub fn line_around(before: &str, number: u64, after: &str) -> ArrayString<128>
+pub fn line_around(before: &str, number: u64, after: &str) -> ArrayString<192>
     requires { (length before.now ≤ 21) × (length after.now ≤ 20) }
     ensures { result.bytes ≡ before.now ++ decimal number ++ after.now }
 {
@@ -94,7 +149,7 @@ pub fn line_around(before: &str, number: u64, after: &str) -> ArrayString<128>
 }
 
 /// The line that tells whose call starves, and how many moves of the schedule before it are the cycle.
-pub(crate) fn starves_line(process: u64, cycle: u64) -> ArrayString<128>
+pub(crate) fn starves_line(process: u64, cycle: u64) -> ArrayString<192>
     ensures { result.bytes ≡ starves_line_by process cycle }
 {
     let mut line = ArrayString::new();
@@ -105,7 +160,7 @@ pub(crate) fn starves_line(process: u64, cycle: u64) -> ArrayString<128>
 }
 
 /// The line with this text, which has room in it.
-fn line_of_text(text: &str) -> ArrayString<128>
+fn line_of_text(text: &str) -> ArrayString<192>
     requires { length text.now ≤ 40 }
     ensures { result.bytes ≡ text.now }
 {
@@ -115,7 +170,7 @@ fn line_of_text(text: &str) -> ArrayString<128>
 }
 
 /// The one line of a fault.
-pub fn line_of(fault: CommandFault) -> ArrayString<128>
+pub fn line_of(fault: CommandFault) -> ArrayString<192>
     ensures { result.bytes ≡ fault_line fault }
 {
     match fault {
@@ -125,7 +180,11 @@ pub fn line_of(fault: CommandFault) -> ArrayString<128>
             line,
             algorithm_line,
         } => line_of_range(line, algorithm_line),
-        CommandFault::Algorithm { line, fault } => line_of_algorithm(line, fault),
+        CommandFault::Algorithm {
+            line,
+            fault,
+            detail,
+        } => line_of_algorithm(line, fault, detail),
         CommandFault::States { line, fault } => line_of_states(line, fault),
         CommandFault::Image { rule } => line_around("rmelab: image: rule ", rule, "\n"),
         CommandFault::Member { p } => line_around("rmelab: member ", p, " failed\n"),

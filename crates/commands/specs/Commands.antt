@@ -1,5 +1,6 @@
 -- How a command ends: what its exit status, or its fault, says of what was read, written and is to be saved.
 use Rattle.std.specs.Prelude.{◌≡◌, ◌⊎◌, ℕ, ◌-◌, List, Option, Some, None, Result, IfErr}
+use Rattle.lock_commands.specs.VariantCosts.{VariantCostEnds}
 use Rattle.lock_commands.specs.Ends.{JudgeEnds, HuntEnds, RunEnds}
 use Rattle.cli.specs.declared.explain.dictionary_entry.DictionaryEntry.{DictionaryEntry}
 use Rattle.cli.specs.declared.explain.dictionary_entry.TheConstants.{ENTRIES}
@@ -8,7 +9,7 @@ use Rattle.cli.specs.Names.{name_of}
 use Rattle.cli.specs.Report.{list_of, meaning_text}
 use Rattle.schedule.specs.Tapes.{Tape, Reading}
 use Rattle.cli.specs.declared.arguments.args.Command.{Command}
-use Rattle.cli.specs.declared.arguments.args.Command.TheVariants.{Replay, ReplayAlgorithm, Run, Hunt, HuntAlgorithm, Explore, ExploreAlgorithm, Cost, MeanCost, Export, States, StatesAlgorithm, Judge, Draw, DrawAlgorithm, Shrink, ShrinkAlgorithm, Step, StepAlgorithm, Explain}
+use Rattle.cli.specs.declared.arguments.args.Command.TheVariants.{Replay, ReplayAlgorithm, Run, Hunt, HuntAlgorithm, Explore, ExploreAlgorithm, Cost, CostVariant, MeanCost, Export, States, StatesAlgorithm, Judge, Draw, DrawAlgorithm, Shrink, ShrinkAlgorithm, Step, StepAlgorithm, Explain}
 use Rattle.command_parts.specs.declared.fault.CommandFault.TheVariants.{Write}
 use Rattle.command_parts.specs.Conversations.{SessionEnds}
 use Rattle.lock_commands.specs.Settings.{lock_machine}
@@ -68,6 +69,7 @@ CommandEnds (HuntAlgorithm args) image old new before now end = (new ≡ old) ×
 CommandEnds (Explore args) image old new before now end = ExploreEnds args before now end
 CommandEnds (ExploreAlgorithm args) image old new before now end = (new ≡ old) × AlgorithmExploreEnds args image before now end
 CommandEnds (Cost args) image old new before now end = (new ≡ old) × AlgorithmCostEnds args image before now end
+CommandEnds (CostVariant args) image old new before now end = (new ≡ old) × VariantCostEnds args before now end
 CommandEnds (MeanCost args) image old new before now end = (new ≡ old) × AlgorithmMeanEnds args image before now end
 CommandEnds (Export args) image old new before now end = (new ≡ old) × AlgorithmExportEnds args image before now end
 CommandEnds (States args) image old new before now end = StatesEnds args old new before now end

@@ -24,6 +24,7 @@ use cli::arguments::args::Command;
 use cli::{DictionaryEntry, tell_all_names, tell_dictionary_entry};
 use command_parts::line::write_fault;
 use command_parts::{CommandFault, Ending, Folder, NoFolder, NoScreen, Screen};
+use lock_commands::cost_command::variant_cost_command;
 use lock_commands::drawn::draw_command;
 use lock_commands::explore_command::explore_command;
 use lock_commands::hunt_command::hunt_command;
@@ -107,6 +108,7 @@ pub fn carry_out<T: Threads + Wait + Sync, F: Folder, S: Screen, R: Source, W: S
             algorithm_explore_command(rt, alloc, args, image, screen, w)
         }
         Command::Cost(args) => algorithm_cost_command(alloc, args, image, screen, w),
+        Command::CostVariant(args) => variant_cost_command(alloc, args, screen, w),
         Command::MeanCost(args) => algorithm_mean_command(alloc, args, image, w),
         Command::Export(args) => algorithm_export_command(alloc, args, image, w),
         Command::States(args) => states_command(alloc, args, r, w),

@@ -1,4 +1,5 @@
 pub mod Lines
+pub mod Crashes
 pub mod Drawn
 pub mod Shares
 pub mod Observed

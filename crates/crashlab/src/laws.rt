@@ -1,6 +1,6 @@
 //! Laws of worlds of the variants. Each is the contract of a function that does nothing.
 
-ghost use Rattle.std.specs.Prelude.{◌≡◌, ◌+◌, ◌<◌, ◌≤◌, ℕ, map, Some, None};
+ghost use Rattle.std.specs.Prelude.{◌≡◌, ◌+◌, ◌<◌, ◌≤◌, ℕ, List, map, Some, None};
 ghost use Rattle.std.specs.List.{range_with_len};
 ghost use Rattle.rmecore.specs.Machine.{kind_of, carried_value};
 ghost use Rattle.rmecore.specs.declared.access.Access.{Access};
@@ -9,12 +9,15 @@ ghost use Rattle.rmeworld.specs.declared.call.Call.{Call};
 ghost use Rattle.rmeworld.specs.ProcessState.{ProcessState, WorldEvent, Begins, Falls, at_rest, next_process_state, lock_deed};
 ghost use Rattle.schedule.specs.Runs.{IsSameAsLines};
 ghost use Rattle.schedule.specs.declared.lines.line.Line.TheVariants.{Crash, CrashAll};
+ghost use Rattle.crashlab.specs.declared.hunts.moves.DrawnMove.TheVariants as drawn;
+ghost use Rattle.crashlab.specs.hunts.Draws.{Sight, drawn_move, move_of_word};
 ghost use Rattle.crashlab.specs.hunts.Hunted.{found_from, hunt_result, or_else};
 ghost use Rattle.crashlab.specs.declared.variants.deviation.Deviation.TheVariants.{Straight};
 ghost use Rattle.crashlab.specs.variants.VariantProcessStates.{beside, variant_process_state, variant_outer, variant_answer_at, variant_done_at, variant_access_at};
 ghost use Rattle.crashlab.specs.variants.VariantWorlds.{VariantState, new_world, start_refusal, variant_after_start, access_at, found_by, variant_step_report, variant_after_step, variant_after_crash, variant_behaviour};
 ghost use Rattle.crashlab.specs.variants.VariantRuns.{IsVariantRun, process_state_at, move};
 
+use crate::hunts::random_moves::RandomMoves;
 use crate::variants::variant::Variant;
 
 /// In every run of a world of a variant each process follows the variant's definition. This is the lock's, but for the rows
@@ -54,11 +57,18 @@ pub fn crash_all_of_a_variant_is_each_crash()
 /// A hunt is that of its parts: what some rounds find is what the first of them find, or else what those after them find. So of shards
 /// that share out the rounds of a hunt, the least that finds a schedule finds that of the whole hunt.
 pub fn hunts_are_of_their_parts()
-    ensures parts { (variant : Variant) (seed steps first rounds more : ℕ)
-        → found_from variant seed steps first (rounds + more)
-        ≡ or_else (found_from variant seed steps first rounds) (found_from variant seed steps (first + rounds) more) }
-    ensures whole { (variant : Variant) (seed rounds steps : ℕ)
-        → hunt_result variant seed rounds steps ≡ found_from variant seed steps 0 rounds }
+    ensures parts { (variant : Variant) (asked : RandomMoves) (first rounds more : ℕ)
+        → found_from variant asked first (rounds + more)
+        ≡ or_else (found_from variant asked first rounds) (found_from variant asked (first + rounds) more) }
+    ensures whole { (variant : Variant) (seed rounds steps : ℕ) → hunt_result variant seed rounds steps
+        ≡ found_from variant (record { seed = seed; steps = steps; system_crashes = 0 }) 0 rounds }
+{}
+
+/// Crashes of all processes are drawn beside the moves of one process: with none of them in 1,000 moves a word draws the move that it
+/// draws without them, and with 1,000 of them each word draws one.
+pub fn system_crashes_are_drawn_in_1000_moves()
+    ensures none { (seen : ℕ → List Sight) (word : ℕ) → drawn_move 0 seen word ≡ move_of_word seen word }
+    ensures all { (seen : ℕ → List Sight) (word : ℕ) → drawn_move 1000 seen word ≡ drawn.CrashAll }
 {}
 
 /// The variant that is the lock changes no row: its process states and its deeds are the lock's.

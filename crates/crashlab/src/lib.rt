@@ -14,6 +14,7 @@ pub mod words;
 pub use crash_plans::{At, Both, CrashPlan, Never, Seeded};
 pub use hunts::hunt_fault::HuntFault;
 pub use hunts::parallel_hunts::{hunt_in_parallel, hunt_in_parallel_watched};
+pub use hunts::random_moves::RandomMoves;
 pub use hunts::{hunt, hunt_part, hunt_watched};
 pub use minimization::minimizer::minimize;
 pub use minimization::oracle::Oracle;

@@ -5,7 +5,8 @@ use Rattle.redomail.specs.declared.layout.Layout.{Layout}
 use Rattle.algorithms.specs.declared.remote_references.memory_event.MemoryEvent.{MemoryEvent}
 use Rattle.algorithms.specs.remote_references.CopyRows.{CopyRows, AreCopiesAfter}
 use Rattle.diagram.specs.declared.remote_marks.RemoteMarks.{RemoteMarks}
-use Rattle.diagram.specs.LockMarks.{lock_declarations, marks_of_act, marks_of_rows, MarksRows, memory_of_row}
+use Rattle.passages.specs.LockMemory.{lock_declarations}
+use Rattle.diagram.specs.LockMarks.{marks_of_act, marks_of_rows, MarksRows, memory_of_row}
 use Rattle.diagram.proofs.Common.{DiagramEvent, DiagramRow, events_in, events_shown, flat_map-append, flat_map-cons, row_of}
 use Rattle.diagram.proofs.Steps.{rows_both}
 

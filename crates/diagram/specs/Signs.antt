@@ -7,6 +7,7 @@ use Rattle.rmecore.specs.declared.kind.Kind.TheVariants as kinds
 use Rattle.rmecore.specs.declared.word.Word.{Word}
 use Rattle.rmecore.specs.declared.word.Word.TheVariants as words
 use Rattle.redomail.specs.declared.layout.Layout.{Layout}
+pub use Rattle.passages.specs.LockMemory.{stores}
 use Rattle.diagram.specs.declared.act.RowAct.{RowAct}
 use Rattle.diagram.specs.declared.act.RowAct.TheVariants.{Silent, Telling, Fell}
 
@@ -24,16 +25,6 @@ name_of kinds.Reread = codes "reread"
 name_of kinds.Get = codes "get"
 name_of kinds.Put = codes "put"
 name_of kinds.Glance = codes "glance"
-
--- a step of this kind stores its word; the others load it
-abbrev pub stores : Kind → Bool
-stores kinds.Open = true
-stores kinds.Take = true
-stores kinds.Shut = true
-stores kinds.Mark = true
-stores kinds.Drop = true
-stores kinds.Put = true
-stores kind = false
 
 -- a name with an index in brackets
 abbrev pub indexed_name : List ℕ → ℕ → List ℕ

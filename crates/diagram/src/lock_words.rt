@@ -5,7 +5,7 @@ ghost use Rattle.diagram.specs.StepLines.{lock_after, lock_with, own_at, played_
 
 use crate::act::{DiagramRow, RowAct};
 use crate::marked_steps::MarkedSteps;
-use crate::signs::stores;
+use passages::lock_memory::stores;
 use rmecore::{Happened, Own, Word};
 use std::marker::Model;
 

@@ -59,15 +59,15 @@ TellsFound true variant found before now end =
 pub record TellsFind (args : HuntArgs) (before now : Tape) (end : Result Ending CommandFault) : Type 0 where
   pub wrong : args.variant ≢ Right
   pub schedule : Scheduled
-  pub few : length schedule.lines ≤ args.steps
+  pub few : length schedule.lines ≤ args.moves.steps
   pub found : IsFound args.variant schedule
-  pub exact : Some schedule ≡ found_from args.variant args.seed args.steps args.first_round args.rounds
+  pub exact : Some schedule ≡ found_from args.variant args.moves args.first_round args.rounds
   pub text : TellsFound args.shrink args.variant schedule before now end
 
 -- how `hunt` ends: nothing found, a schedule found, sizes out of their ranges, or out of memory before either is known
 abbrev pub HuntEnds : HuntArgs → Tape → Tape → Result Ending CommandFault → Type 0
 HuntEnds args before now end =
-    (None ≡ found_from args.variant args.seed args.steps args.first_round args.rounds) × Prints 0 nothing_line before now end
+    (None ≡ found_from args.variant args.moves args.first_round args.rounds) × Prints 0 nothing_line before now end
     ⊎ TellsFind args before now end
     ⊎ (end ≡ Err BadSize) × (HuntFits args → ⊥) × Silent before now
     ⊎ RunsOut before now end

@@ -8,3 +8,4 @@ pub mod Shrinks
 pub mod States
 pub mod Tallies
 pub mod Tellings
+pub mod VariantCosts

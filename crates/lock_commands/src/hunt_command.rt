@@ -57,20 +57,19 @@ fn schedule_of_hunt<T: Threads + Sync, S: Screen>(
     screen: &mut S,
 ) -> Result<Option<Schedule>, HuntFault>
     ensures exact { IfOk result (λ found. found
-        ≡ found_from args.now.variant args.now.seed args.now.steps args.now.first_round args.now.rounds) }
+        ≡ found_from args.now.variant args.now.moves args.now.first_round args.now.rounds) }
     ensures right { args.now.variant ≡ Variant.Right → IfOk result IsNone }
     ensures found { IfOk result (λ found. IfSome found (λ schedule. IsFound args.now.variant schedule)) }
-    ensures moves { IfOk result (λ found. IfSome found (λ schedule. length schedule.lines ≤ args.now.steps)) }
+    ensures moves { IfOk result (λ found. IfSome found (λ schedule. length schedule.lines ≤ args.now.moves.steps)) }
     ensures failed { IfErr result (λ fault. (fault ≡ HuntFault.OutOfMemory) ⊎ (HuntFits args.now → ⊥)) }
 {
     if args.first_round > 0 {
         return hunt_part(
             alloc,
             args.variant,
-            args.seed,
+            args.moves,
             args.first_round,
             args.rounds,
-            args.steps,
         );
     }
     let mut meter = Meter::new(screen, Work::Hunt);
@@ -79,9 +78,8 @@ fn schedule_of_hunt<T: Threads + Sync, S: Screen>(
         alloc,
         jobs_of(rt, args.jobs),
         args.variant,
-        args.seed,
+        args.moves,
         args.rounds,
-        args.steps,
         &mut meter,
     );
     meter.end();

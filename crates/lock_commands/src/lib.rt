@@ -1,8 +1,10 @@
-//! The commands on the lock and its variants: `replay`, `draw`, `shrink`, `judge`, `hunt`, `explore`, `states`, `run` and `step`.
+//! The commands on the lock and its variants: `replay`, `draw`, `shrink`, `judge`, `hunt`, `explore`, `cost`, `states`, `run` and
+//! `step`.
 //!
 //! Main items: `replay_command`, `explore_command`, `run_command`.
 #![tactic(auto)]
 
+pub mod cost_command;
 pub mod drawn;
 pub mod explore_command;
 pub mod hunt_command;

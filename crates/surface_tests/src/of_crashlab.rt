@@ -3,8 +3,8 @@
 ghost use Rattle.crashlab.specs.hunts.Hunts.{IsFound};
 
 use crashlab::{
-    At, Both, CrashPlan, HuntFault, Never, Seeded, Variant, VariantWorld, hunt, hunt_in_parallel,
-    hunt_in_parallel_watched, hunt_watched, shrink, shrink_found,
+    At, Both, CrashPlan, HuntFault, Never, RandomMoves, Seeded, Variant, VariantWorld, hunt,
+    hunt_in_parallel, hunt_in_parallel_watched, hunt_part, hunt_watched, shrink, shrink_found,
 };
 use explorer::Watch;
 use redomail::Layout;
@@ -72,25 +72,38 @@ pub fn is_a_machine(world: &VariantWorld) -> (Layout, bool) {
     (world.layout(), has_an_image(world))
 }
 
-/// By one thread, by several, and each with its progress watched.
+/// The moves of a hunt with this many crashes of all in 1,000.
+pub fn moves_with(seed: u64, steps: u64, system_crashes: u64) -> (RandomMoves, bool) {
+    let asked = RandomMoves {
+        seed,
+        steps,
+        system_crashes,
+    };
+    (asked, asked.is_system_crash(0))
+}
+
+/// By one thread, by several, each with its progress watched, and from a round on.
 pub fn hunted<R: Threads + Sync, W: Watch>(
     rt: &R,
     alloc: Global,
     jobs: u64,
     variant: Variant,
-    (seed, rounds, steps): (u64, u64, u64),
+    asked: RandomMoves,
+    rounds: u64,
     watch: &mut W,
 ) -> (
     Result<Option<Schedule>, HuntFault>,
     Result<Option<Schedule>, HuntFault>,
     Result<Option<Schedule>, HuntFault>,
     Result<Option<Schedule>, HuntFault>,
+    Result<Option<Schedule>, HuntFault>,
 ) {
     (
-        hunt(alloc, variant, seed, rounds, steps),
-        hunt_watched(alloc, variant, seed, rounds, steps, watch),
-        hunt_in_parallel(rt, alloc, jobs, variant, seed, rounds, steps),
-        hunt_in_parallel_watched(rt, alloc, jobs, variant, seed, rounds, steps, watch),
+        hunt(alloc, variant, asked.seed, rounds, asked.steps),
+        hunt_watched(alloc, variant, asked, rounds, watch),
+        hunt_in_parallel(rt, alloc, jobs, variant, asked, rounds),
+        hunt_in_parallel_watched(rt, alloc, jobs, variant, asked, rounds, watch),
+        hunt_part(alloc, variant, asked, 1, rounds),
     )
 }
 

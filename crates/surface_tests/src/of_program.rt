@@ -71,6 +71,7 @@ pub fn in_variants(
         | Command::HuntAlgorithm(_)
         | Command::ExploreAlgorithm(_)
         | Command::Cost(_)
+        | Command::CostVariant(_)
         | Command::MeanCost(_)
         | Command::Export(_)
         | Command::States(_)

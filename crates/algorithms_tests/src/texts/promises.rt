@@ -61,6 +61,50 @@ call unlock
   done
 ";
 
+pub const CLEARING: &[u8] = br"algorithm clearing for 1 to 64 processes
+promises exclusion, exit within procs + 1, bounds
+shared held up to 1
+shared wants[procs] up to 1
+call lock
+  await v := swap held to 1 until v = 0
+  this is enter
+  done
+call unlock
+  for p in all
+    wants[p] := 0
+  end
+  held := 0                             this is leave
+  done
+";
+
+pub const HASTY_CLEARING: &[u8] = br"algorithm hasty_clearing for 1 to 64 processes
+promises exclusion, bounds, exit within procs
+shared held up to 1
+shared wants[procs] up to 1
+call lock
+  await v := swap held to 1 until v = 0
+  this is enter
+  done
+call unlock
+  for p in all
+    wants[p] := 0
+  end
+  held := 0                             this is leave
+  done
+";
+
+pub const SQUARED: &[u8] = br"algorithm squared for 1 to 64 processes
+promises exclusion, exit within limit * limit, recovery within procs - 2
+shared held up to 1
+call lock
+  await v := swap held to 1 until v = 0
+  this is enter
+  done
+call unlock
+  held := 0                             this is leave
+  done
+";
+
 pub const BOUNDED_TEST_AND_SET: &[u8] = br"algorithm bounded_test_and_set for 1 to 64 processes
 promises exclusion, reentry, exit within 1, recovery within 1
 shared holder up to procs

@@ -4,7 +4,7 @@ ghost use Rattle.std.specs.Prelude.{◌≡◌, option_copied};
 
 use crate::explain::dictionary_entry::DictionaryEntry;
 use algorithms::{MemoryModel, PassageKind};
-use crashlab::Variant;
+use crashlab::{RandomMoves, Variant};
 
 /// `replay`: runs a schedule and prints its report.
 #[derive(Debug, Drop)]
@@ -54,12 +54,10 @@ pub struct RunArgs {
 #[derive(Clone, Copy, Debug)]
 pub struct HuntArgs {
     pub variant: Variant,
-    pub seed: u64,
+    pub moves: RandomMoves,
     /// The number of the first round.
     pub first_round: u64,
     pub rounds: u64,
-    /// The number of moves of a round.
-    pub steps: u64,
     /// Shrink the schedule that was found.
     pub shrink: bool,
     /// How many threads share out the rounds; 0: as many as there are processors.
@@ -73,12 +71,10 @@ pub struct AlgorithmHuntArgs {
     pub algorithm: String,
     pub procs: u64,
     pub limit: u64,
-    pub seed: u64,
+    pub moves: RandomMoves,
     /// The number of the first round.
     pub first_round: u64,
     pub rounds: u64,
-    /// The number of moves of a round.
-    pub steps: u64,
     /// Shrink the schedule that was found.
     pub shrink: bool,
     /// How many threads share out the rounds; 0: as many as there are processors.
@@ -173,6 +169,15 @@ pub struct AlgorithmExploreArgs {
 pub struct CostArgs {
     /// The search whose schedules they are.
     pub search: AlgorithmExploreArgs,
+    pub model: MemoryModel,
+    pub kind: PassageKind,
+}
+
+/// `cost --variant`: looks for the schedule on which a passage of a variant of the lock has the most remote references.
+#[derive(Clone, Copy, Debug)]
+pub struct VariantCostArgs {
+    /// The search whose schedules they are.
+    pub search: ExploreArgs,
     pub model: MemoryModel,
     pub kind: PassageKind,
 }
@@ -323,6 +328,7 @@ pub enum Command {
     Explore(ExploreArgs),
     ExploreAlgorithm(AlgorithmExploreArgs),
     Cost(CostArgs),
+    CostVariant(VariantCostArgs),
     MeanCost(MeanCostArgs),
     Export(ExportArgs),
     States(StatesArgs),

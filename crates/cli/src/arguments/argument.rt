@@ -95,7 +95,7 @@ pub const RUN: [Argument<'static>; 5] = [
 ];
 
 /// The arguments of `hunt`.
-pub const HUNT: [Argument<'static>; 10] = [
+pub const HUNT: [Argument<'static>; 11] = [
     VARIANT,
     ALGORITHM,
     Argument::Number(
@@ -116,6 +116,11 @@ pub const HUNT: [Argument<'static>; 10] = [
     ),
     Argument::RequiredNumber("rounds", "R", "1 to 10000 rounds"),
     Argument::RequiredNumber("steps", "K", "1 to 10000 moves a round"),
+    Argument::Number(
+        "system-crashes",
+        "G",
+        "0 to 1000 crashes of all processes at once in 1000 moves; 0 without it",
+    ),
     Argument::Flag("shrink", "Minimize the schedule found, as `shrink` does"),
     Argument::Number(
         "jobs",
@@ -163,8 +168,9 @@ pub const EXPLORE: [Argument<'static>; 15] = [
 ];
 
 /// The arguments of `cost`.
-pub const COST: [Argument<'static>; 13] = [
-    Argument::RequiredText("algorithm", "FILE", ALGORITHM_HELP),
+pub const COST: [Argument<'static>; 14] = [
+    VARIANT,
+    ALGORITHM,
     Argument::RequiredText("model", "M", "dsm, write-through or write-back"),
     Argument::Flag(
         "super-passages",
@@ -182,7 +188,7 @@ pub const COST: [Argument<'static>; 13] = [
     Argument::Number("limit", "L", "Numbers up to L; 4 without it"),
     Argument::Flag(
         "mean",
-        "Count on random schedules: --seed, --rounds and --steps go with it alone, and --limit is 1000000 without it; not with --super-passages, --calls, --crashes, --system-crashes or --states",
+        "Count on random schedules: --seed, --rounds and --steps go with it alone, and --limit is 1000000 without it; not with --variant, --super-passages, --calls, --crashes, --system-crashes or --states",
     ),
     Argument::Number("seed", "S", "The seed of the moves; 0 without it"),
     Argument::Number("rounds", "R", "1 to 10000 rounds; 100 without it"),

@@ -7,11 +7,12 @@ ghost use Rattle.cli.specs.Given.{given_in, kind_asked, word_of_model, AsksForMo
 ghost use Rattle.cli.specs.ReadWords.{HasNoRounds, HasNoSearch, ReadsCommand};
 ghost use Rattle.cli.specs.Sizes.{IsInRanges};
 
-use crate::arguments::args::{Command, CostArgs, MeanCostArgs};
-use crate::arguments::explore_words::algorithm_search;
+use crate::arguments::args::{Command, CostArgs, MeanCostArgs, VariantCostArgs};
+use crate::arguments::explore_words::{algorithm_search, variant_search};
 use crate::arguments::hunt_words::sizes_of;
 use crate::arguments::words::{
-    WordsFault, error_text, given_text, is_given, is_set, number_of, number_or, str_of,
+    NO_LOCK, WordsFault, error_text, given_text, is_given, is_set, number_of, number_or, str_of,
+    variant_of,
 };
 use algorithms::{MemoryModel, PassageKind};
 use clap::ArgMatches;
@@ -54,7 +55,7 @@ fn passage_kind_of(matches: &ArgMatches<'_>) -> PassageKind
 
 /// What is wrong where an option does not go with `--mean`, or only with it.
 const NO_OPTIONS: &str =
-    "with '--mean' there is no '--super-passages', no '--calls', no '--crashes', no '--system-crashes' and no '--states', and without it no '--seed', no '--rounds' and no '--steps'";
+    "with '--mean' there is no '--variant', no '--super-passages', no '--calls', no '--crashes', no '--system-crashes' and no '--states', and without it no '--seed', no '--rounds' and no '--steps'";
 
 /// Whether the greatest cost is asked for, and no option of random schedules is given.
 fn has_no_rounds(matches: &ArgMatches<'_>) -> bool
@@ -142,15 +143,58 @@ fn algorithm_words(alloc: Global, matches: &ArgMatches<'_>) -> Result<Command, W
     }
 }
 
-/// The costs that are asked for, and of which algorithm.
+/// The greatest cost of a variant of the lock. `BadSize`: there is no such model.
+#[tactic(auto, using(crate::proofs::Answered::variant_cost_refused, crate::proofs::Answered::variant_model_refused))]
+fn variant_search_words(alloc: Global, matches: &ArgMatches<'_>) -> Result<Command, WordsFault>
+    requires variant { IsSome (first_of (codes "variant") (given_in matches.now)) }
+    requires alone { IsNone (first_of (codes "algorithm") (given_in matches.now)) }
+    requires options { HasNoRounds (given_in matches.now) }
+    ensures sized { IfOk result IsInRanges }
+    ensures reads { ReadsCommand (codes "cost") (given_in matches.now) result }
+{
+    let search = variant_search(alloc, matches)?;
+    let Some(model) = model_of(matches) else {
+        return Err(WordsFault::BadSize);
+    };
+    let kind = passage_kind_of(matches);
+    Ok(Command::CostVariant(VariantCostArgs {
+        search,
+        model,
+        kind,
+    }))
+}
+
+/// The costs of a variant of the lock. `BadVariant`: there is no such variant, or an algorithm is given too.
+#[tactic(auto, using(crate::proofs::Answered::beside_refused, crate::proofs::Answered::named_refused, crate::proofs::Answered::variant_options_refused))]
+fn variant_words(alloc: Global, matches: &ArgMatches<'_>) -> Result<Command, WordsFault>
+    requires variant { IsSome (first_of (codes "variant") (given_in matches.now)) }
+    ensures sized { IfOk result IsInRanges }
+    ensures reads { ReadsCommand (codes "cost") (given_in matches.now) result }
+{
+    if is_given(matches, "algorithm") {
+        return Err(WordsFault::BadVariant);
+    }
+    variant_of(matches, "")?;
+    if !has_no_rounds(matches) {
+        return Err(WordsFault::Refused {
+            text: error_text(alloc, NO_OPTIONS)?,
+        });
+    }
+    variant_search_words(alloc, matches)
+}
+
+/// The costs that are asked for, and of what.
 pub(crate) fn cost_words(alloc: Global, matches: &ArgMatches<'_>) -> Result<Command, WordsFault>
     ensures sized { IfOk result IsInRanges }
     ensures reads { ReadsCommand (codes "cost") (given_in matches.now) result }
 {
-    match str_of(matches, "algorithm") {
-        Some(_) if !is_given(matches, "variant") => algorithm_words(alloc, matches),
-        Some(_) | None => Err(WordsFault::Refused {
-            text: error_text(alloc, "there is no '--algorithm <FILE>'")?,
-        }),
+    if is_given(matches, "variant") {
+        variant_words(alloc, matches)
+    } else if is_given(matches, "algorithm") {
+        algorithm_words(alloc, matches)
+    } else {
+        Err(WordsFault::Refused {
+            text: error_text(alloc, NO_LOCK)?,
+        })
     }
 }

@@ -3,8 +3,8 @@
 ghost use Rattle.std.specs.Prelude.{◌≡◌, IfOk, IsNone, IsSome, OnErr, IsErrOf, codes};
 ghost use Rattle.clap.specs.Words.{first_of};
 ghost use Rattle.cli.specs.Given.{given_in};
-ghost use Rattle.cli.specs.ReadWords.{ReadsCommand};
-ghost use Rattle.cli.specs.Sizes.{IsInRanges, IsHuntSize};
+ghost use Rattle.cli.specs.ReadWords.{ReadsCommand, moves_of, rounds_of};
+ghost use Rattle.cli.specs.Sizes.{AreHuntNumbers, IsInRanges, IsHuntSize};
 
 use crate::arguments::args::{AlgorithmHuntArgs, Command, HuntArgs};
 use crate::arguments::words::{
@@ -12,6 +12,7 @@ use crate::arguments::words::{
     variant_of,
 };
 use clap::ArgMatches;
+use crashlab::RandomMoves;
 use std::alloc::Global;
 
 /// The rounds of random schedules and the moves of each, if they are in their ranges.
@@ -27,6 +28,27 @@ pub(crate) fn sizes_of(rounds: u64, steps: u64) -> Result<(u64, u64), WordsFault
     }
 }
 
+/// The rounds of a hunt and its random moves, if their numbers are in their ranges.
+fn hunt_numbers(matches: &ArgMatches<'_>) -> Result<(u64, RandomMoves), WordsFault>
+    ensures given { IfOk result (λ numbers. (numbers.0 ≡ rounds_of (given_in matches.now))
+        × (numbers.1 ≡ moves_of (given_in matches.now))) }
+    ensures fits { IfOk result (λ numbers. AreHuntNumbers numbers.0 numbers.1) }
+    ensures bad { OnErr result (IsErrOf result WordsFault.BadSize
+        × (AreHuntNumbers (rounds_of (given_in matches.now)) (moves_of (given_in matches.now)) → ⊥)) }
+{
+    let (rounds, steps) = sizes_of(number_of(matches, "rounds"), number_of(matches, "steps"))?;
+    let system_crashes = number_of(matches, "system-crashes");
+    if system_crashes > 1_000 {
+        return Err(WordsFault::BadSize);
+    }
+    let moves = RandomMoves {
+        seed: number_of(matches, "seed"),
+        steps,
+        system_crashes,
+    };
+    Ok((rounds, moves))
+}
+
 /// A hunt on the algorithm with this text.
 fn algorithm_words(alloc: Global, matches: &ArgMatches<'_>) -> Result<Command, WordsFault>
     requires { IsSome (first_of (codes "algorithm") (given_in matches.now)) }
@@ -36,16 +58,15 @@ fn algorithm_words(alloc: Global, matches: &ArgMatches<'_>) -> Result<Command, W
     if is_given(matches, "variant") {
         return Err(WordsFault::BadVariant);
     }
-    let (rounds, steps) = sizes_of(number_of(matches, "rounds"), number_of(matches, "steps"))?;
+    let (rounds, moves) = hunt_numbers(matches)?;
     let first_round = number_of(matches, "first-round");
     Ok(Command::HuntAlgorithm(AlgorithmHuntArgs {
         algorithm: given_text(alloc, matches, "algorithm")?,
         procs: number_or(matches, "procs", 2),
         limit: number_or(matches, "limit", 1_000_000),
-        seed: number_of(matches, "seed"),
+        moves,
         first_round,
         rounds,
-        steps,
         shrink: is_set(matches, "shrink"),
         jobs: number_of(matches, "jobs"),
     }))
@@ -66,13 +87,12 @@ fn variant_words(alloc: Global, matches: &ArgMatches<'_>) -> Result<Command, Wor
     if is_given(matches, "procs") || is_given(matches, "limit") {
         return Err(WordsFault::BadSize);
     }
-    let (rounds, steps) = sizes_of(number_of(matches, "rounds"), number_of(matches, "steps"))?;
+    let (rounds, moves) = hunt_numbers(matches)?;
     Ok(Command::Hunt(HuntArgs {
         variant,
-        seed: number_of(matches, "seed"),
+        moves,
         first_round: number_of(matches, "first-round"),
         rounds,
-        steps,
         shrink: is_set(matches, "shrink"),
         jobs: number_of(matches, "jobs"),
     }))

@@ -54,7 +54,7 @@ if nothing was found, 1 if a schedule was, 2 after a fault of the words or the a
 of memory, or if there are more states than --states.\n\nExample: rmelab explore --variant no-look --procs 2";
 
 const COST_HELP: &str =
-    "In: the algorithm's text: docs/use/algorithms.md. All its schedules are tried whose moves are the start of a call of --calls, one \
+    "In: nothing; with --algorithm the algorithm's text: docs/use/algorithms.md. All schedules are tried whose moves are the start of a call of --calls, one \
 step, a crash, of which there are at most --crashes, or a crash of all processes, of which there are at most --system-crashes. With \
 --mean schedules are drawn: --rounds of --steps moves each, a move being a step of a process or, where it has no call, the start of \
 one. A passage costs each access of its process that is remote in the model: docs/dev/texts.md.\nOut: a schedule that reaches the \
@@ -179,7 +179,7 @@ fn explore<'a>(alloc: Global) -> Result<Parser<'a>, AllocError>
 fn cost<'a>(alloc: Global) -> Result<Parser<'a>, AllocError>
     ensures { IfOk result (IsParser (app_of_shape cost)) }
 {
-    let about = "Counts the remote references of a passage of an algorithm: the most, or the mean";
+    let about = "Counts the remote references of a passage: the most, or the mean";
     command(alloc, "cost", about, COST_HELP, &argument::COST)
 }
 

@@ -35,7 +35,7 @@ pub enum WordsFault {
     /// The help or the version that was asked for. It is printed; the exit status is 0.
     Help { text: String },
     /// The error text of `clap`, that the words name no entry, that an option is beside `--algorithm` which the command does not
-    /// have there, that `explore`, `states`, `hunt` or `shrink` has neither a variant nor an algorithm, that `cost` or `export` has no
+    /// have there, that `explore`, `cost`, `states`, `hunt` or `shrink` has neither a variant nor an algorithm, that `export` has no
     /// algorithm, or that an option of `cost` does not go with `--mean`, or only with it. It is printed to standard error; the exit
     /// status is 2.
     Refused { text: String },

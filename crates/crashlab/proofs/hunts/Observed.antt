@@ -1,5 +1,5 @@
 -- The observer of a hunt.
-use Rattle.std.proofs.Common.{◌≡◌, ◌≢◌, ◌<◌, ◌≤◌, ◌⊎◌, inl, inr, ℕ, ◌==◌, Bool, true, false, if◌then◌else◌, List, slice_get, slice_set, Some, refl, sym, ap, ◌∙◌, arith, length-set, get_or, get_or-set_same, get_or-set_other}
+use Rattle.std.proofs.Common.{◌≡◌, ◌≢◌, ◌<◌, ◌≤◌, ◌⊎◌, inl, inr, ℕ, zero, suc, ◌==◌, Bool, true, false, if◌then◌else◌, List, slice_get, slice_set, Some, refl, sym, ap, ◌∙◌, arith, length-set, get_or, get_or-set_same, get_or-set_other}
 use Rattle.std.proofs.lemmas.Bool.{cases_eq, eqb-true}
 use Rattle.std.proofs.lemmas.Option.{slice_get-get_or, slice_get_within}
 use Rattle.rmecore.proofs.Invariant.{eqb_self}
@@ -34,3 +34,11 @@ observes_at p change seen observations x observes within is q below = go (cases_
 pub observes_past : (p : ℕ) (change : List Sight → List Sight) (seen : ℕ → List Sight) (observations : List Observation) → Observes seen observations → 3 ≤ p → Observes (at_process p change seen) observations
 observes_past p change seen observations observes past q below =
     observes q below ∙ sym (ap (λ b. Some (observation_of (if b then change (seen q) else seen q))) (eqb_not q p (λ e. absurd (omega (arith, e, past, below)))))
+
+-- all three processes are observed anew, one after another
+pub observes_each : (change : List Sight → List Sight) (seen : ℕ → List Sight) (observations : List Observation)
+    → Observes (at_process 2 change (at_process 1 change (at_process 0 change seen))) observations → Observes (λ p. change (seen p)) observations
+observes_each change seen observations observes zero below = observes 0 below
+observes_each change seen observations observes (suc zero) below = observes 1 below
+observes_each change seen observations observes (suc (suc zero)) below = observes 2 below
+observes_each change seen observations observes (suc (suc (suc q))) below = absurd (omega (arith, below))

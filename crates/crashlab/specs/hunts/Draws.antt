@@ -1,14 +1,13 @@
 -- The move that a hunt makes of a drawn word (the hunt's drawing rule of docs/dev/surface.md), given what is seen of the
 -- processes in the round so far: the calls that they started, the answers of these, and the crashes.
-use Rattle.std.specs.Prelude.{ℕ, ◌+◌, ◌/◌, ◌%◌, ◌^◌, ◌-◌, Bool, true, false, ◌==◌, if◌then◌else◌, min, List, [], ◌∷◌, Option, Some, None}
+use Rattle.std.specs.Prelude.{ℕ, ◌+◌, ◌/◌, ◌%◌, ◌^◌, ◌-◌, nat_lt, Bool, true, false, ◌==◌, if◌then◌else◌, min, List, [], ◌∷◌, Option, Some, None}
 use Rattle.redomail.specs.declared.reply.Reply.TheVariants.{Mended, Stored, Already}
 use Rattle.rmeworld.specs.declared.answer.Answer.{Answer}
 use Rattle.rmeworld.specs.declared.answer.Answer.TheVariants.{Clean, OwnerDied, NotRecoverable, Mail}
 use Rattle.crashlab.specs.declared.hunts.moves.NextCall.{NextCall}
 use Rattle.crashlab.specs.declared.hunts.moves.NextCall.TheVariants.{Lock, Consistent, Append, Unlock}
 use Rattle.crashlab.specs.declared.hunts.moves.DrawnMove.{DrawnMove}
-use Rattle.crashlab.specs.declared.hunts.moves.DrawnMove.TheVariants.{Start, Step, Crash}
-use Rattle.crashlab.specs.hunts.Found.{mover}
+use Rattle.crashlab.specs.declared.hunts.moves.DrawnMove.TheVariants.{Start, Step, Crash, CrashAll}
 use Rattle.crashlab.specs.variants.VariantWorlds.{VariantState, variant_step_report}
 
 -- what is seen of a process: a call under way, a call with its answer, a crash. Lists of these begin with the newest
@@ -68,9 +67,17 @@ abbrev pub move_onward : ℕ → List Sight → DrawnMove
 move_onward p (Begins next_call ∷ seen) = Step p
 move_onward p seen = Start p (call_after seen)
 
--- the move of a word, given what is seen of each process
+-- the move of one process of a word, given what is seen of each process
 abbrev pub move_of_word : (ℕ → List Sight) → ℕ → DrawnMove
 move_of_word seen word = if word / 64 % 16 == 0 then Crash (word % 3) else move_onward (word % 3) (seen (word % 3))
+
+-- the word is a crash of all, where there are this many in 1,000 moves
+abbrev pub is_system_crash : ℕ → ℕ → Bool
+is_system_crash system_crashes word = nat_lt (word / 4096 % 1000) system_crashes
+
+-- the move of a word, where there are this many crashes of all in 1,000 moves
+abbrev pub drawn_move : ℕ → (ℕ → List Sight) → ℕ → DrawnMove
+drawn_move system_crashes seen word = if is_system_crash system_crashes word then CrashAll else move_of_word seen word
 
 -- the call under way ends with this answer
 abbrev pub seen_after_answer : Answer → List Sight → List Sight
@@ -82,16 +89,13 @@ abbrev pub answered_if : Option Answer → List Sight → List Sight
 answered_if None seen = seen
 answered_if (Some answer) seen = seen_after_answer answer seen
 
--- what is seen of the process of a move, after the move
-abbrev pub seen_of_mover : VariantState → DrawnMove → List Sight → List Sight
-seen_of_mover s (Start p next_call) seen = Begins next_call ∷ seen
-seen_of_mover s (Step p) seen = answered_if (variant_step_report s p).answer seen
-seen_of_mover s (Crash p) seen = Falls ∷ seen
-
 -- a change at process p alone
 abbrev pub at_process : ℕ → (List Sight → List Sight) → (ℕ → List Sight) → ℕ → List Sight
 at_process p change seen q = if q == p then change (seen q) else seen q
 
 -- what is seen of each process, after a move
 abbrev pub seen_after_move : VariantState → DrawnMove → (ℕ → List Sight) → ℕ → List Sight
-seen_after_move s made seen = at_process (mover made) (seen_of_mover s made) seen
+seen_after_move s (Start p next_call) seen = at_process p (λ before. Begins next_call ∷ before) seen
+seen_after_move s (Step p) seen = at_process p (answered_if (variant_step_report s p).answer) seen
+seen_after_move s (Crash p) seen = at_process p (λ before. Falls ∷ before) seen
+seen_after_move s CrashAll seen = λ p. Falls ∷ seen p

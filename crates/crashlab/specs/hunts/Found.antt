@@ -2,7 +2,7 @@
 use Rattle.crashlab.specs.declared.variants.judge_feed.MoveOutcome.{MoveOutcome}
 use Rattle.crashlab.specs.declared.variants.judge_feed.MoveOutcome.TheVariants.{On, Caught}
 use Rattle.crashlab.specs.declared.variants.variant.Variant.{Variant}
-use Rattle.std.specs.Prelude.{◌≡◌, ℕ, Bool, true, false, List, [], ◌∷◌, ◌++◌, map, Option, Some}
+use Rattle.std.specs.Prelude.{◌≡◌, ℕ, Bool, true, false, List, [], ◌∷◌, ◌++◌, map, Option, Some, None}
 use Rattle.judge.specs.Kept.{Kept}
 use Rattle.schedule.specs.declared.lines.line.Line.{Line}
 use Rattle.schedule.specs.declared.lines.line.Line.TheVariants as line
@@ -11,7 +11,7 @@ use Rattle.rmeworld.specs.declared.call.Call.TheVariants as call
 use Rattle.crashlab.specs.declared.hunts.moves.NextCall.{NextCall}
 use Rattle.crashlab.specs.declared.hunts.moves.NextCall.TheVariants.{Lock, Consistent, Append, Unlock}
 use Rattle.crashlab.specs.declared.hunts.moves.DrawnMove.{DrawnMove}
-use Rattle.crashlab.specs.declared.hunts.moves.DrawnMove.TheVariants.{Start, Step, Crash}
+use Rattle.crashlab.specs.declared.hunts.moves.DrawnMove.TheVariants.{Start, Step, Crash, CrashAll}
 use Rattle.schedule.specs.Schedules.{Scheduled}
 use Rattle.rmeworld.specs.Law.{EveryExecutionIsLegal}
 use Rattle.crashlab.specs.declared.variants.variant.Variant.TheVariants.{Right}
@@ -45,19 +45,20 @@ abbrev pub line_by : DrawnMove → Line
 line_by (Start p next_call) = line.Start p (call_by next_call)
 line_by (Step p) = line.Step p 1
 line_by (Crash p) = line.Crash p
+line_by CrashAll = line.CrashAll
 
 -- moves as a schedule of a hunt's world
 abbrev pub drawn_moves_of : List DrawnMove → Scheduled
 drawn_moves_of moves = record { procs = 3; limit = 1000000; cap = 64; width = 1; lines = map line_by moves }
 
--- the process of a move
-abbrev pub mover : DrawnMove → ℕ
-mover (Start p next_call) = p
-mover (Step p) = p
-mover (Crash p) = p
+-- the process of a move of one process
+abbrev pub mover : DrawnMove → Option ℕ
+mover (Start p next_call) = Some p
+mover (Step p) = Some p
+mover (Crash p) = Some p
+mover CrashAll = None
 
--- the move is a crash
+-- the move is a crash of one process
 abbrev pub is_crash : DrawnMove → Bool
-is_crash (Start p next_call) = false
-is_crash (Step p) = false
 is_crash (Crash p) = true
+is_crash _ = false

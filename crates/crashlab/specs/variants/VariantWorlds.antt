@@ -84,6 +84,10 @@ variant_after_start s p call = record s { processes = slice_set s.processes p (v
 abbrev pub access_at : VariantState → ℕ → Option Access
 access_at s p = variant_next_access (machine_state_at s.processes p)
 
+-- the next step of p, where there is a process p
+abbrev pub next_of : VariantState → ℕ → Option Access
+next_of s p = if nat_lt p s.layout.procs then access_at s p else None
+
 -- a step is refused where there is none
 abbrev pub unless_step : Option Access → Option Refusal
 unless_step None = Some NothingToDo

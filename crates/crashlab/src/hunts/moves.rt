@@ -53,6 +53,8 @@ pub enum DrawnMove {
     Step(u64),
     /// A process crashes.
     Crash(u64),
+    /// Every process crashes.
+    CrashAll,
 }
 
 impl DrawnMove {
@@ -64,6 +66,7 @@ impl DrawnMove {
             DrawnMove::Start(p, next_call) => Line::Start(p, next_call.call()),
             DrawnMove::Step(p) => Line::Step(p, Count::ONE),
             DrawnMove::Crash(p) => Line::Crash(p),
+            DrawnMove::CrashAll => Line::CrashAll,
         }
     }
 }

@@ -1,12 +1,13 @@
 //! The observer of a hunt: what it knows of the processes, and the move that it makes of a drawn word.
 
-ghost use Rattle.std.specs.Prelude.{◌≡◌, ◌/◌, ◌%◌, ◌↔◌, ◌∷◌, [], ℕ, IsTrue, List, true, false};
+ghost use Rattle.std.specs.Prelude.{◌≡◌, ◌/◌, ◌%◌, ◌↔◌, ◌∷◌, [], ℕ, IsTrue, List, Some, true, false};
 ghost use Rattle.crashlab.specs.hunts.Found.{mover, is_crash};
-ghost use Rattle.crashlab.specs.hunts.Draws.{Sight, Begins, Ends, Falls, seen_after_answer as answered_of, answered_if, at_process, call_after, move_of_word, is_inside, move_onward as onward_of};
+ghost use Rattle.crashlab.specs.hunts.Draws.{Sight, Begins, Ends, Falls, seen_after_answer as answered_of, answered_if, at_process, call_after, drawn_move, move_of_word, is_inside, move_onward as onward_of};
 ghost use Rattle.crashlab.specs.hunts.Observed.{Observes, observation_of};
 
 use crate::hunts::PROCS;
 use crate::hunts::moves::{DrawnMove, NextCall};
+use crate::hunts::random_moves::RandomMoves;
 use redomail::Reply;
 use rmeworld::Answer;
 use std::marker::Model;
@@ -56,7 +57,7 @@ impl Observation {
 
     /// The move of process p, unless it is a crash: a step, or the start of its next call.
     fn move_onward(&self, p: u64) -> DrawnMove
-        ensures process { mover result ≡ p }
+        ensures process { mover result ≡ Some p }
         ensures crash { is_crash result ≡ false }
         ensures onward { (seen : List Sight) → self.now ≡ observation_of seen → result ≡ onward_of p seen }
     {
@@ -142,9 +143,19 @@ impl Observer {
         }
     }
 
-    /// The move of a drawn word: a crash, a step, or the next call of its process.
-    pub fn draw(&self, word: u32) -> DrawnMove
-        ensures process { mover result ≡ word % 3 }
+    /// The move of a drawn word: a crash of all, or a move of one process.
+    pub fn draw(&self, asked: RandomMoves, word: u32) -> DrawnMove
+        ensures { (seen : ℕ → List Sight) → Observes seen self.now → result ≡ drawn_move asked.system_crashes seen word }
+    {
+        if asked.is_system_crash(word) {
+            return DrawnMove::CrashAll;
+        }
+        self.draw_alone(word)
+    }
+
+    /// The move of one process of a drawn word: a crash, a step, or the next call of the process.
+    fn draw_alone(&self, word: u32) -> DrawnMove
+        ensures process { mover result ≡ Some (word % 3) }
         ensures crash { IsTrue (is_crash result) ↔ (word / 64 % 16 ≡ 0) }
         ensures drawn { (seen : ℕ → List Sight) → Observes seen self.now → result ≡ move_of_word seen word }
     {
@@ -164,6 +175,15 @@ impl Observer {
         if p < PROCS {
             self.observer[p as usize].note_crash();
         }
+    }
+
+    /// Notes that every process crashed.
+    pub fn note_system_crash(&mut self)
+        ensures { (seen : ℕ → List Sight) → Observes seen self.old → Observes (λ p. Falls ∷ seen p) self.new }
+    {
+        self.note_crash(0);
+        self.note_crash(1);
+        self.note_crash(2);
     }
 
     /// Notes that a process started a call.

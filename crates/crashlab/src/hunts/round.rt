@@ -12,6 +12,7 @@ ghost use Rattle.crashlab.specs.hunts.Observed.{Observes};
 
 use crate::hunts::moves::{DrawnMove, NextCall};
 use crate::hunts::observer::Observer;
+use crate::hunts::system_crash::crash_each;
 use crate::variants::judge_feed::{MoveOutcome, tell};
 use crate::variants::variant_world::VariantWorld;
 use judge::Judge;
@@ -47,6 +48,11 @@ pub fn make(
         ),
         DrawnMove::Start(p, next_call) => take_up(world, observer, p, next_call),
         DrawnMove::Crash(p) => crash(world, judge, observer, p),
+        DrawnMove::CrashAll => {
+            crash_each(world, judge);
+            observer.note_system_crash();
+            Some(MoveOutcome::On)
+        }
     }
 }
 

@@ -329,7 +329,7 @@ impl VariantWorld {
     ghost use Rattle.rmecore.specs.Machine.{place_of};
     ghost use Rattle.rmeworld.specs.ScriptStates.{HoldsJob};
     ghost use Rattle.crashlab.specs.variants.VariantSeams.{with_variant_memory, with_process};
-    ghost use Rattle.crashlab.specs.variants.VariantWorlds.{machine_state_at};
+    ghost use Rattle.crashlab.specs.variants.VariantWorlds.{machine_state_at, next_of};
 
     /// The sizes of the world.
     pub fn layout(&self) -> Layout
@@ -337,6 +337,16 @@ impl VariantWorld {
         ensures size { IsSize result }
     {
         self.layout
+    }
+
+    /// The next step of process p. None where there is no process p, or no step of it.
+    pub fn next_access(&self, p: u64) -> Option<Access>
+        ensures { result ≡ next_of self.now p }
+    {
+        if p >= self.layout.procs {
+            return None;
+        }
+        self.processes[p as usize].next()
     }
 
     /// For this workspace alone, which saves and restores worlds: the data words.

@@ -3,7 +3,7 @@
 
 use crate::search::jugs::{Jugs, Pour};
 use crate::search::schedules::Sizes;
-use crashlab::{HuntFault, Variant, hunt, hunt_in_parallel};
+use crashlab::{HuntFault, RandomMoves, Variant, hunt, hunt_in_parallel};
 use explorer::{SearchFault, SearchOutcome, Unwatched, search, search_in_parallel};
 use lock_explorer::{
     Bounds, CrashCounts, ExploreFault, Move, Variables, shortest_schedule_in_parallel,
@@ -202,7 +202,12 @@ fn is_hunted<R: Threads + Sync>(
     alloc: Global,
     one: &Result<Option<Vec<u8>>, HuntFault>,
 ) -> Option<bool> {
-    let found = hunt_in_parallel(rt, alloc, 3, Variant::ExitOnCrash, 1, ROUNDS, STEPS);
+    let asked = RandomMoves {
+        seed: 1,
+        steps: STEPS,
+        system_crashes: 0,
+    };
+    let found = hunt_in_parallel(rt, alloc, 3, Variant::ExitOnCrash, asked, ROUNDS);
     match text_of(alloc, found) {
         Err(HuntFault::OutOfMemory) => None,
         found => Some(found == *one),

@@ -1,8 +1,9 @@
 //! Hunts draw the schedules that a plain program draws by the same rule, and each case of the rule is met in them.
 
-use crate::texts::drawn::DRAWN;
-use crashlab::hunts::hunt;
-use crashlab::{Variant, VariantWorld};
+use crate::texts::drawn::{DRAWN, DRAWN_WITH_SYSTEM_CRASHES};
+use crashlab::hunts::hunt_watched;
+use crashlab::{RandomMoves, Variant, VariantWorld};
+use explorer::Unwatched;
 use redomail::Reply;
 use rmecore::{Body, Refusal};
 use rmeworld::{Answer, Call, Machine};
@@ -31,7 +32,9 @@ const APPEND_AFTER_ALREADY: u64 = 512;
 
 const UNLOCK: u64 = 1024;
 
-/// All cases.
+const SYSTEM_CRASH: u64 = 2048;
+
+/// All cases of a hunt that draws no crash of all.
 const ALL: u64 = 2047;
 
 /// Where a process is.
@@ -150,18 +153,28 @@ fn made(world: &mut VariantWorld, seen: &mut Seen, line: Line) -> Result<u64, Re
     }
 }
 
-/// The cases of the rule in a schedule that was found. None: the rule does not ask for one of its moves. It never draws a crash of
-/// all.
+/// Makes a crash of all, and notes it. The case of the rule; 0 where a process can't crash.
+fn made_of_all(world: &mut VariantWorld, seen: &mut [Seen; 3]) -> u64 {
+    for (p, here) in (0u64..).zip(seen) {
+        if made(world, here, Line::Crash(p)).is_err() {
+            return 0;
+        }
+    }
+    SYSTEM_CRASH
+}
+
+/// The cases of the rule in a schedule that was found. None: the rule does not ask for one of its moves.
 fn cases(world: &mut VariantWorld, found: &Schedule) -> Option<u64> {
     let mut seen = [UNSEEN; 3];
     let mut cases = 0;
     for line in found.lines() {
-        let p = match line {
-            Line::Crash(p) | Line::Step(p, _) | Line::Start(p, _) => *p,
-            Line::CrashAll => return None,
+        let case = match line {
+            Line::Crash(p) | Line::Step(p, _) | Line::Start(p, _) => {
+                let here = seen.get_mut(*p as usize)?;
+                made(world, here, *line).unwrap_or(0)
+            }
+            Line::CrashAll => made_of_all(world, &mut seen),
         };
-        let here = seen.get_mut(p as usize)?;
-        let case = made(world, here, *line).unwrap_or(0);
         if case == 0 {
             return None;
         }
@@ -194,6 +207,7 @@ fn spelled(letter: u8) -> &'static [u8] {
         b'A' => b"1 1\n",
         b'B' => b"2 2\n",
         b'C' => b"3 3\n",
+        b'*' => b"crash all\n",
         _ => b"",
     }
 }
@@ -229,20 +243,24 @@ fn cases_on(alloc: Global, variant: Variant, found: &Schedule) -> Option<u64> {
 }
 
 /// The cases of the rule in the schedule that the hunt finds. None: it does not have these moves.
-fn drawn(alloc: Global, variant: Variant, seed: u64, moves: &str) -> Option<u64> {
-    match hunt(alloc, variant, seed, 10_000, 1_000) {
+fn drawn(alloc: Global, variant: Variant, asked: RandomMoves, moves: &str) -> Option<u64> {
+    match hunt_watched(alloc, variant, asked, 10_000, &mut Unwatched) {
         Ok(Some(found)) if has_moves(alloc, &found, moves) => cases_on(alloc, variant, &found),
         _ => None,
     }
 }
 
 /// The cases of the rule in the schedules that the hunts of the first seeds find. None: one does not have its moves.
-fn all_drawn(alloc: Global, variant: Variant, schedules: &str) -> Option<u64> {
+fn all_drawn(alloc: Global, variant: Variant, system_crashes: u64, schedules: &str) -> Option<u64> {
     let mut all = 0;
-    let mut seed = 0u64;
+    let mut asked = RandomMoves {
+        seed: 0,
+        steps: 1_000,
+        system_crashes,
+    };
     for moves in schedules.split(' ') {
-        seed = seed.saturating_add(1);
-        all |= drawn(alloc, variant, seed, moves)?;
+        asked.seed = asked.seed.saturating_add(1);
+        all |= drawn(alloc, variant, asked, moves)?;
     }
     Some(all)
 }
@@ -251,10 +269,19 @@ fn all_drawn(alloc: Global, variant: Variant, schedules: &str) -> Option<u64> {
 fn hunts_draw_by_the_rule(rt: HostRuntime) {
     let mut all = 0;
     for (variant, schedules) in DRAWN {
-        let cases = all_drawn(rt.alloc(), variant, schedules);
+        let cases = all_drawn(rt.alloc(), variant, 0, schedules);
         assert!(rt; cases.is_some(), "{variant:?}");
         all |= cases.unwrap_or(0);
     }
     // each case
     assert!(rt; all == ALL);
+}
+
+/// With 20 crashes of all in 1,000 moves. A schedule is found of each wrong variant, and one is drawn in each.
+#[test]
+fn hunts_draw_system_crashes_by_the_rule(rt: HostRuntime) {
+    for (variant, schedules) in DRAWN_WITH_SYSTEM_CRASHES {
+        let cases = all_drawn(rt.alloc(), variant, 20, schedules);
+        assert!(rt; cases.unwrap_or(0) & SYSTEM_CRASH > 0, "{variant:?}");
+    }
 }

@@ -1,7 +1,8 @@
 //! What hunts find, how short it is minimized, and what they refuse.
 
-use crashlab::hunts::hunt;
-use crashlab::{HuntFault, Variant, shrink_found};
+use crashlab::hunts::{hunt, hunt_watched};
+use crashlab::{HuntFault, RandomMoves, Variant, shrink_found};
+use explorer::Unwatched;
 use std::alloc::Global;
 
 /// The most rounds of a hunt of seed 1, and the number of lines of its minimized schedule, which has some fifty to four hundred
@@ -43,4 +44,19 @@ fn hunts_of_seed_1(rt: HostRuntime) {
         let refused = hunt(rt.alloc(), Variant::Right, 1, rounds, steps).err();
         assert!(rt; refused == Some(fault), "{rounds} {steps}");
     }
+}
+
+/// A round of crashes of all alone finds nothing, and more than 1,000 of them in 1,000 moves are as many.
+#[test]
+fn system_crashes_alone(rt: HostRuntime) -> Result<(), HuntFault> {
+    for system_crashes in [1_000, 1_001, u64::MAX] {
+        let asked = RandomMoves {
+            seed: 1,
+            steps: 1_000,
+            system_crashes,
+        };
+        let found = hunt_watched(rt.alloc(), Variant::NoLook, asked, 20, &mut Unwatched)?;
+        assert!(rt; found.is_none(), "{system_crashes}");
+    }
+    Ok(())
 }

@@ -11,7 +11,7 @@ Commands:
   run      Runs senders on threads, with drawn crashes, and counts their messages
   hunt     Draws schedules until a variant of the lock, or an algorithm, goes wrong
   explore  Tries all schedules up to a bound, for the shortest that goes wrong
-  cost     Counts the remote references of a passage of an algorithm: the most, or the mean
+  cost     Counts the remote references of a passage: the most, or the mean
   export   Writes the model of an algorithm for another tool
   states   Writes and checks the states of a search as lines of a text
   judge    Judges a trace of deeds, and prints the verdict
@@ -90,17 +90,18 @@ Draws schedules until a variant of the lock, or an algorithm, goes wrong
 Usage: rmelab hunt [OPTIONS] --seed <S> --rounds <R> --steps <K>
 
 Options:
-      --variant <V>       right, no-look, no-ties, renumber, exit-on-crash, count-up or last-skipped
-      --algorithm <FILE>  Run this algorithm, a text, in place of a variant
-      --procs <N>         1 to 64 processes; 2 without it; with --algorithm alone
-      --limit <L>         Numbers up to L; 1000000 without it; with --algorithm alone
-      --seed <S>          The seed of the moves
-      --first-round <A>   Begin with round A, by one thread; 0 without it
-      --rounds <R>        1 to 10000 rounds
-      --steps <K>         1 to 10000 moves a round
-      --shrink            Minimize the schedule found, as `shrink` does
-      --jobs <N>          N threads at once; without it, or 0, as many as there are processors
-  -h, --help              Print help
+      --variant <V>         right, no-look, no-ties, renumber, exit-on-crash, count-up or last-skipped
+      --algorithm <FILE>    Run this algorithm, a text, in place of a variant
+      --procs <N>           1 to 64 processes; 2 without it; with --algorithm alone
+      --limit <L>           Numbers up to L; 1000000 without it; with --algorithm alone
+      --seed <S>            The seed of the moves
+      --first-round <A>     Begin with round A, by one thread; 0 without it
+      --rounds <R>          1 to 10000 rounds
+      --steps <K>           1 to 10000 moves a round
+      --system-crashes <G>  0 to 1000 crashes of all processes at once in 1000 moves; 0 without it
+      --shrink              Minimize the schedule found, as `shrink` does
+      --jobs <N>            N threads at once; without it, or 0, as many as there are processors
+  -h, --help                Print help
 
 In: nothing; with --algorithm the algorithm's text: docs/use/algorithms.md.
 Out: the schedule found, which `rmelab replay` with the same --variant or --algorithm replays to its fault, or `nothing found`.
@@ -138,11 +139,12 @@ Exit status: 0 if nothing was found, 1 if a schedule was, 2 after a fault of the
 
 Example: rmelab explore --variant no-look --procs 2
 @row rmelab cost --help @out
-Counts the remote references of a passage of an algorithm: the most, or the mean
+Counts the remote references of a passage: the most, or the mean
 
-Usage: rmelab cost [OPTIONS] --algorithm <FILE> --model <M> --procs <N>
+Usage: rmelab cost [OPTIONS] --model <M> --procs <N>
 
 Options:
+      --variant <V>         right, no-look, no-ties, renumber, exit-on-crash, count-up or last-skipped
       --algorithm <FILE>    Run this algorithm, a text, in place of a variant
       --model <M>           dsm, write-through or write-back
       --super-passages      Count in super-passages, which a crash does not end
@@ -152,13 +154,13 @@ Options:
       --system-crashes <G>  At most G crashes of all processes at once; 0 without it
       --states <S>          At most S states; 10000000 without it
       --limit <L>           Numbers up to L; 4 without it
-      --mean                Count on random schedules: --seed, --rounds and --steps go with it alone, and --limit is 1000000 without it; not with --super-passages, --calls, --crashes, --system-crashes or --states
+      --mean                Count on random schedules: --seed, --rounds and --steps go with it alone, and --limit is 1000000 without it; not with --variant, --super-passages, --calls, --crashes, --system-crashes or --states
       --seed <S>            The seed of the moves; 0 without it
       --rounds <R>          1 to 10000 rounds; 100 without it
       --steps <K>           1 to 10000 moves a round; 1000 without it
   -h, --help                Print help
 
-In: the algorithm's text: docs/use/algorithms.md. All its schedules are tried whose moves are the start of a call of --calls, one step, a crash, of which there are at most --crashes, or a crash of all processes, of which there are at most --system-crashes. With --mean schedules are drawn: --rounds of --steps moves each, a move being a step of a process or, where it has no call, the start of one. A passage costs each access of its process that is remote in the model: docs/dev/texts.md.
+In: nothing; with --algorithm the algorithm's text: docs/use/algorithms.md. All schedules are tried whose moves are the start of a call of --calls, one step, a crash, of which there are at most --crashes, or a crash of all processes, of which there are at most --system-crashes. With --mean schedules are drawn: --rounds of --steps moves each, a move being a step of a process or, where it has no call, the start of one. A passage costs each access of its process that is remote in the model: docs/dev/texts.md.
 Out: a schedule that reaches the greatest cost, and the line `process P passage cost K`; or, if none is the greatest, a schedule and the line `process P passage cost unbounded cycle K`: its last K moves can be made again and again, and cost something each time. With --super-passages the line has `super-passage` in place of `passage`. Nothing is said of a greater size, limit or number of crashes. With --mean the line `passages N cost K mean M`: N passages were completed, K is what they cost together, and M is K/N, rounded down to hundredths; or, if none was, `passages 0 cost 0`.
 Shown: on standard error, if that is a terminal, the states, how many moves deep and the states a second, once a second while it works.
 Exit status: 0 if a cost is the greatest, or with --mean, 1 if none is, 2 after a fault of the words or the algorithm, 3 after one of a device or of memory, or if there are more states than --states.

@@ -36,17 +36,28 @@ rmelab draw --variant right --image a.json
 Draw(DrawArgs { html: false, svg: false, variant: Right, image: Some(\"a.json\"), file: None })
 
 rmelab hunt --variant last-skipped --seed 1 --rounds 10000 --steps 10000
-Hunt(HuntArgs { variant: LastSkipped, seed: 1, first_round: 0, rounds: 10000, steps: 10000, shrink: false, jobs: 0 })
+Hunt(HuntArgs { variant: LastSkipped, moves: RandomMoves { seed: 1, steps: 10000, system_crashes: 0 }, first_round: 0, \
+rounds: 10000, shrink: false, jobs: 0 })
 
 rmelab hunt --variant last-skipped --seed 1 --rounds 10000 --steps 10000 --jobs 7
-Hunt(HuntArgs { variant: LastSkipped, seed: 1, first_round: 0, rounds: 10000, steps: 10000, shrink: false, jobs: 7 })
+Hunt(HuntArgs { variant: LastSkipped, moves: RandomMoves { seed: 1, steps: 10000, system_crashes: 0 }, first_round: 0, \
+rounds: 10000, shrink: false, jobs: 7 })
 
 rmelab hunt --variant no-look --seed 1 --first-round 40 --rounds 10 --steps 20
-Hunt(HuntArgs { variant: NoLook, seed: 1, first_round: 40, rounds: 10, steps: 20, shrink: false, jobs: 0 })
+Hunt(HuntArgs { variant: NoLook, moves: RandomMoves { seed: 1, steps: 20, system_crashes: 0 }, first_round: 40, \
+rounds: 10, shrink: false, jobs: 0 })
+
+rmelab hunt --variant no-look --seed 1 --rounds 10 --steps 20 --system-crashes 1000
+Hunt(HuntArgs { variant: NoLook, moves: RandomMoves { seed: 1, steps: 20, system_crashes: 1000 }, first_round: 0, \
+rounds: 10, shrink: false, jobs: 0 })
 
 rmelab hunt --algorithm a.lock --seed 1 --first-round 40 --rounds 10 --steps 20 --jobs 7
-HuntAlgorithm(AlgorithmHuntArgs { algorithm: \"a.lock\", procs: 2, limit: 1000000, seed: 1, first_round: 40, rounds: 10, steps: 20, \
-shrink: false, jobs: 7 })
+HuntAlgorithm(AlgorithmHuntArgs { algorithm: \"a.lock\", procs: 2, limit: 1000000, \
+moves: RandomMoves { seed: 1, steps: 20, system_crashes: 0 }, first_round: 40, rounds: 10, shrink: false, jobs: 7 })
+
+rmelab hunt --algorithm a.lock --seed 1 --rounds 10 --steps 20 --system-crashes 5
+HuntAlgorithm(AlgorithmHuntArgs { algorithm: \"a.lock\", procs: 2, limit: 1000000, \
+moves: RandomMoves { seed: 1, steps: 20, system_crashes: 5 }, first_round: 0, rounds: 10, shrink: false, jobs: 0 })
 
 rmelab run --procs 16 --messages 4096 --crash 50 --seed 7
 Run(RunArgs { procs: 16, messages: 4096, crash: 50, seed: 7, width: 1 })
@@ -103,6 +114,11 @@ Cost(CostArgs { search: AlgorithmExploreArgs { algorithm: \"a.lock\", procs: 2, 
 system_crashes: 0, \
 moves: 18446744073709551615, states: 10000000, limit: 1, stuck: false, starving: None, jobs: 0 }, model: WriteBack, \
 kind: SuperPassage })
+
+rmelab cost --variant right --model write-through --procs 2 --super-passages --crashes 1 --limit 2
+CostVariant(VariantCostArgs { search: ExploreArgs { variant: Right, procs: 2, calls: Alphabet { lock: true, unlock: true, recover: false, \
+consistent: false, withdraw: false, append: false, close: false }, crashes: 1, system_crashes: 0, moves: 18446744073709551615, states: 10000000, \
+limit: 2, cap: 1, width: 1, stuck: false, starving: None, all_variables: false, jobs: 0 }, model: WriteThrough, kind: SuperPassage })
 
 rmelab cost --algorithm a.lock --model dsm --procs 3 --mean
 MeanCost(MeanCostArgs { algorithm: \"a.lock\", model: Distributed, procs: 3, limit: 1000000, seed: 0, rounds: 100, steps: 1000 })

@@ -34,6 +34,14 @@ nothing found
 @row rmelab replay --algorithm a.lock --json @in ALONE @file a.lock PETERSON @out ALONE_AS_OBJECT
 @row rmelab replay --algorithm a.lock --each --json @in ALONE @file a.lock PETERSON @out ALONE_AS_LINES
 @row rmelab step --algorithm a.lock @in SESSION @file a.lock ONE_WORD @out HELD
+@row rmelab replay --algorithm a.lock @in ALONE @ends 2 @file a.lock
+algorithm a for 2 processes
+promises exclusion
+shared x[2]
+call lock
+v := x
+@err
+rmelab: algorithm line 5, column 6: fault 4: indexes given: 0, declared: 1
 @row rmelab step --algorithm a.lock b.rme @file a.lock PETERSON @file b.rme ALONE @out BEGUN @in
 undo
 ";

@@ -45,6 +45,10 @@ rmelab: bad size
 rmelab: bad size
 @row rmelab hunt --variant right --seed 1 --rounds 0 --steps 1 @ends 2 @err
 rmelab: bad size
+@row rmelab hunt --variant right --seed 1 --rounds 1 --steps 1 --system-crashes 1001 @ends 2 @err
+rmelab: bad size
+@row rmelab hunt --variant no-look --seed 1 --rounds 20 --steps 1000 --system-crashes 1000 @out
+nothing found
 ";
 
 const MEMBER_3_FAILED: &str = "rmelab: member 3 failed\n";

@@ -69,11 +69,13 @@ lock 0
 step 0
 process 0 passage cost unbounded cycle 1
 @text NO_SEARCH
-error: with '--mean' there is no '--super-passages', no '--calls', no '--crashes', no '--system-crashes' and no '--states', and without it no '--seed', no '--rounds' and no '--steps'
+error: with '--mean' there is no '--variant', no '--super-passages', no '--calls', no '--crashes', no '--system-crashes' and no '--states', and without it no '--seed', no '--rounds' and no '--steps'
 
 For more information, try '--help'.
 ";
 
+/// Alone the lock reads its three words, stores six times, and reads whether it is ruined: 10 where stores go through, and written
+/// back 7, as it has its words for itself after the first store of each. Its own words live at it, the data word does not.
 /// Of those with `--mean` the first has the numbers of the reference program. Of one process the first passage costs 3, and each later
 /// one 2, as it has a copy of the word that it reads; written back, the first costs 2, and each later one nothing.
 pub const COSTS: &str = "
@@ -104,6 +106,54 @@ passages 0 cost 0
 @row rmelab cost --algorithm a.lock --model numa --procs 2 --mean --super-passages @ends 2 @err NO_SEARCH
 @row rmelab cost --algorithm a.lock --model dsm --procs 2 --mean --crashes 1 @ends 2 @err NO_SEARCH
 @row rmelab cost --algorithm a.lock --model dsm --procs 2 --seed 1 @ends 2 @err NO_SEARCH
+@row rmelab cost --variant right --model dsm --procs 1 --limit 2 @out
+rme 1 procs 1 limit 2 cap 1
+lock 0
+step 0
+step 0
+step 0
+step 0
+step 0
+step 0
+step 0
+step 0
+process 0 passage cost 1
+@row rmelab cost --variant right --model write-back --procs 1 --limit 2 @out
+rme 1 procs 1 limit 2 cap 1
+lock 0
+step 0
+step 0
+step 0
+step 0
+step 0
+step 0
+step 0
+step 0
+process 0 passage cost 7
+@row rmelab cost --variant right --model write-through --procs 1 --limit 2 @out
+rme 1 procs 1 limit 2 cap 1
+lock 0
+step 0
+step 0
+step 0
+step 0
+step 0
+step 0
+step 0
+step 0
+unlock 0
+step 0
+step 0
+process 0 passage cost 10
+@row rmelab cost --variant right --model dsm --procs 2 --mean @ends 2 @err NO_SEARCH
+@row rmelab cost --variant right --model numa --procs 2 --seed 1 @ends 2 @err NO_SEARCH
+@row rmelab cost --variant wrong --model dsm --procs 2 --mean @ends 2 @err BAD_VARIANT
+@row rmelab cost --variant right --algorithm a.lock --model dsm --procs 2 @ends 2 @err BAD_VARIANT
+@row rmelab cost --variant right --model numa --procs 2 @ends 2 @err BAD_SIZE
+@row rmelab cost --variant right --model dsm --procs 2 --calls lock,nothing @ends 2 @err BAD_SIZE
+@row rmelab cost --variant right --model dsm --procs 65 @ends 2 @err BAD_SIZE
+@row rmelab cost --variant right --model dsm --procs 2 --states 50 @ends 3 @err
+rmelab: too many states
 ";
 
 pub const COSTS_THAT_FAIL: &str = "

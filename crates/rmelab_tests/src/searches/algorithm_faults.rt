@@ -8,8 +8,10 @@ pub const TEXTS: &str = "
 rme 1 procs 2 limit 1 cap 1
 lock 0
 step 0 9
-@text LIMIT_PASSED
-rmelab: algorithm line 1: fault 16: a limit is passed
+@text LONG_LINE
+rmelab: algorithm line 1, column 1001: fault 16: a line of more than 1000 characters
+@text LARGE_NUMBER
+rmelab: algorithm line 1, column 17: fault 16: a number above 18446744073709551615
 @text BAD_VARIANT
 rmelab: bad variant
 @text UNREAD
@@ -33,12 +35,12 @@ rmelab: algorithm line 6: fault 7: a second access in one line
 @row rmelab replay --algorithm a.lock @in NINE_STEPS @ends 2 @file a.lock
 algorithm \0
 @err
-rmelab: algorithm line 1: fault 2: a character that means nothing here
+rmelab: algorithm line 1, column 11: fault 2: a byte that is not printable ASCII
 @row rmelab replay --algorithm a.lock @ends 2 @in
 rme@file a.lock
 algorithm \0
 @err
-rmelab: algorithm line 1: fault 2: a character that means nothing here
+rmelab: algorithm line 1, column 11: fault 2: a byte that is not printable ASCII
 @row rmelab replay --algorithm a.lock @in NINE_STEPS @ends 2 @file a.lock
 algorithm a for 2 processes
 promises exclusion@err
@@ -48,9 +50,9 @@ rme@file a.lock
 algorithm a for 2 processes
 promises exclusion@err
 rmelab: algorithm line 2: fault 3: the last line is not ended by a line feed
-@row rmelab replay --algorithm a.lock @in NINE_STEPS @ends 2 @err LIMIT_PASSED @file a.lock
+@row rmelab replay --algorithm a.lock @in NINE_STEPS @ends 2 @err LARGE_NUMBER @file a.lock
 algorithm a for 18446744073709551616 processes
-@row rmelab replay --algorithm a.lock @ends 2 @err LIMIT_PASSED @in
+@row rmelab replay --algorithm a.lock @ends 2 @err LARGE_NUMBER @in
 rme@file a.lock
 algorithm a for 18446744073709551616 processes
 @row rmelab replay --algorithm a.lock @in NINE_STEPS @ends 2 @file a.lock
@@ -99,6 +101,30 @@ call unlock
   done
 @err
 rmelab: algorithm line 7: fault 18: no run comes to this line
+@row rmelab replay --algorithm a.lock @in NINE_STEPS @ends 2 @file a.lock
+algorithm a for 2 processes
+promises exclusion
+shared x
+call lock
+  for j in all
+    v := x
+    if v = j then
+      x := 1
+  done
+call unlock
+  x := 0
+  done
+@err
+rmelab: algorithm line 10: fault 9: no `end` for the block of line 7
+@row rmelab explore --algorithm a.lock --procs 2 @ends 2 @file a.lock
+algorithm a for 2 processes
+promises exclusion
+shared x[procs]
+call lock
+  v := x
+  done
+@err
+rmelab: algorithm line 5, column 8: fault 4: indexes given: 0, declared: 1
 @row rmelab replay --algorithm a.lock b.rme @file a.lock PETERSON @ends 2 @file b.rme
 rme 1 procs 3 limit 1 cap 1
 lock 0
@@ -187,8 +213,8 @@ fn add_long_text(texts: &mut String, name: &str, letters: u64, end: &str) -> Res
 
 const LONG_TEXTS_OF_ALGORITHMS: &str = "
 @program
-@row rmelab replay --algorithm a.lock @in NINE_STEPS @file a.lock LONG @ends 2 @err LIMIT_PASSED
-@row rmelab replay --algorithm a.lock @in NINE_STEPS @file a.lock LONG_NAME @ends 2 @err LIMIT_PASSED
+@row rmelab replay --algorithm a.lock @in NINE_STEPS @file a.lock LONG @ends 2 @err LONG_LINE
+@row rmelab replay --algorithm a.lock @in NINE_STEPS @file a.lock LONG_NAME @ends 2 @err LONG_LINE
 ";
 
 /// A megabyte in one line, and a name of 10,000 letters.

@@ -136,13 +136,10 @@ words turn 1
 verdict fine
 ";
 
-/// A hunt, by threads, and with what it finds made least.
-const HUNTS: [&str; 4] = [
-    "rmelab hunt --algorithm a.lock --seed 1 --rounds 1000 --steps 100",
-    "rmelab hunt --algorithm a.lock --seed 1 --rounds 1000 --steps 100 --jobs 1",
-    "rmelab hunt --algorithm a.lock --seed 1 --rounds 1000 --steps 100 --jobs 3",
-    "rmelab hunt --algorithm a.lock --seed 1 --rounds 1000 --steps 100 --shrink",
-];
+const HUNT: &str = "rmelab hunt --algorithm a.lock --seed 1 --rounds 1000 --steps 100";
+
+/// The same hunt by threads, and with what it finds made least.
+const HUNTS: [&str; 3] = [" --jobs 1", " --jobs 3", " --shrink"];
 
 const REPLAY: &str = "rmelab replay --algorithm a.lock";
 
@@ -153,10 +150,12 @@ fn finds(
     rt: &(impl Threads + Wait + Sync),
     alloc: Global,
     line: &str,
+    more: &str,
     text: &str,
     schedule: &[u8],
 ) -> Result<bool, Fail> {
-    let found = output_of(rt, alloc, line, text, b"", 1)?;
+    let line = format!(in alloc; "{line}{more}")?;
+    let found = output_of(rt, alloc, &line, text, b"", 1)?;
     Ok(found.as_slice() == schedule)
 }
 
@@ -164,26 +163,29 @@ fn finds(
 fn is_made_least(
     rt: &(impl Threads + Wait + Sync),
     alloc: Global,
+    hunt: &str,
     text: &[u8],
 ) -> Result<bool, Fail> {
     let text = str::from_utf8(text)?;
-    let [hunt, by_one, by_three, at_once] = HUNTS;
+    let [by_one, by_three, at_once] = HUNTS;
     let found = output_of(rt, alloc, hunt, text, b"", 1)?;
-    let by_threads = finds(rt, alloc, by_one, text, &found)?
-        && finds(rt, alloc, by_three, text, &found)?;
+    let by_threads = finds(rt, alloc, hunt, by_one, text, &found)?
+        && finds(rt, alloc, hunt, by_three, text, &found)?;
     output_of(rt, alloc, REPLAY, text, &found, 1)?;
     let least = output_of(rt, alloc, SHRINK, text, &found, 1)?;
     let is_shorter = least.len() < found.len();
     drop(found);
     output_of(rt, alloc, REPLAY, text, &least, 1)?;
-    let is_so = finds(rt, alloc, at_once, text, &least)?;
+    let is_so = finds(rt, alloc, hunt, at_once, text, &least)?;
     Ok(by_threads && is_shorter && is_so)
 }
 
 #[test]
 fn hunted_schedules_are_made_least(rt: HostRuntime) -> Result<(), Fail> {
     for text in [others::ONE_WORD, others::PETERSON] {
-        assert!(rt; is_made_least(&rt, rt.alloc(), text)?);
+        assert!(rt; is_made_least(&rt, rt.alloc(), HUNT, text)?);
+        let with_system_crashes = format!(in rt.alloc(); "{HUNT} --system-crashes 50")?;
+        assert!(rt; is_made_least(&rt, rt.alloc(), &with_system_crashes, text)?);
     }
     Ok(())
 }
@@ -197,6 +199,24 @@ nothing found
 \r639 rounds, 3195 moves, 3195 moves a second\x1b[K\r1279 rounds, 6395 moves, 3197 moves a second\x1b[K\r\x1b[K@out NOTHING_FOUND
 @row rmelab hunt --algorithm a.lock --seed 1 --first-round 9999 --rounds 1 --steps 3 @file a.lock PETERSON @out NOTHING_FOUND
 @row rmelab hunt --algorithm a.lock --seed 1 --first-round 10000 --rounds 1 --steps 3 @file a.lock PETERSON @ends 2 @err BAD_SIZE
+@row rmelab hunt --algorithm a.lock --seed 2 --rounds 1 --steps 1000 --system-crashes 50 @file a.lock ONE_WORD @ends 1 @out
+rme 1 procs 2 limit 1000000 cap 1
+crash all
+crash 1
+lock 1
+step 1
+crash all
+crash all
+crash 1
+crash all
+lock 1
+lock 0
+step 0
+step 1
+step 0
+step 1
+@row rmelab hunt --algorithm a.lock --seed 2 --rounds 9 --steps 1000 --system-crashes 1000 @file a.lock ONE_WORD @out NOTHING_FOUND
+@row rmelab hunt --algorithm a.lock --seed 2 --rounds 9 --steps 1000 --system-crashes 1001 @file b.rme ALONE @ends 2 @err BAD_SIZE
 @row rmelab hunt --algorithm a.lock --procs 3 --seed 1 --rounds 1 --steps 3 @file a.lock PETERSON @file b.rme ALONE @ends 2 @err BAD_SIZE
 @row rmelab shrink --algorithm a.lock b.rme @file a.lock PETERSON @file b.rme ALONE @out
 verdict fine

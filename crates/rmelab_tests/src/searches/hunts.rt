@@ -87,7 +87,7 @@ fn hunt_seeds(rt: HostRuntime) -> Result<(), Fail> {
     Ok(())
 }
 
-/// The schedule that `running_judge/lab`, a program written by hand, draws by the same rule.
+/// The schedules that `bench/lab`, a program written by hand, draws by the same rule.
 pub const HUNTS: &str = "
 @text DRAWN
 rme 1 procs 3 limit 1000000 cap 64
@@ -187,11 +187,56 @@ lock 2
 step 1
 step 0
 step 1
+@text DRAWN_WITH_A_SYSTEM_CRASH
+rme 1 procs 3 limit 1000000 cap 64
+lock 2
+lock 1
+crash all
+lock 0
+step 0
+lock 2
+lock 1
+step 2
+step 2
+step 2
+step 2
+step 0
+step 0
+step 1
+step 1
+step 2
+step 1
+step 0
+step 0
+step 2
+step 1
+step 1
+step 0
+step 2
+step 2
+step 2
+step 0
+step 1
+step 1
+step 0
+step 0
+step 2
+step 2
+step 1
+step 2
+step 0
+step 0
 @row rmelab hunt --variant no-look --seed 70 --rounds 10000 --steps 1000 @out DRAWN @ends 1
 @row rmelab hunt --variant no-look --seed 70 --rounds 10000 --steps 1000 --jobs 1 @out DRAWN @ends 1
 @row rmelab hunt --variant no-look --seed 70 --rounds 10000 --steps 1000 --jobs 2 @out DRAWN @ends 1
 @row rmelab hunt --variant no-look --seed 70 --rounds 10000 --steps 1000 --jobs 3 @out DRAWN @ends 1
 @row rmelab hunt --variant no-look --seed 70 --rounds 10000 --steps 1000 --jobs 7 @out DRAWN @ends 1
+@row rmelab hunt --variant no-look --seed 49 --rounds 10 --steps 1000 --system-crashes 20 @out DRAWN_WITH_A_SYSTEM_CRASH @ends 1
+@row rmelab hunt --variant no-look --seed 49 --rounds 10 --steps 1000 --system-crashes 20 --jobs 1 @out DRAWN_WITH_A_SYSTEM_CRASH @ends 1
+@row rmelab hunt --variant no-look --seed 49 --rounds 10 --steps 1000 --system-crashes 20 --jobs 3 @out DRAWN_WITH_A_SYSTEM_CRASH @ends 1
+@row rmelab hunt --variant no-look --seed 49 --first-round 2 --rounds 1 --steps 1000 --system-crashes 20 @out DRAWN_WITH_A_SYSTEM_CRASH @ends 1
+@row rmelab hunt --variant no-look --seed 49 --rounds 2 --steps 1000 --system-crashes 20 @out
+nothing found
 @row rmelab hunt --variant right --seed 1 --rounds 100 --steps 1000 @out
 nothing found
 @row rmelab hunt --variant right --seed 1 --first-round 9900 --rounds 100 --steps 100 @out

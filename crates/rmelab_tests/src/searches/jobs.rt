@@ -2,7 +2,7 @@
 
 use crate::support::watching::Report;
 use crashlab::hunts::hunt_watched;
-use crashlab::{HuntFault, Variant, hunt, hunt_in_parallel, hunt_in_parallel_watched};
+use crashlab::{HuntFault, RandomMoves, Variant, hunt, hunt_in_parallel, hunt_in_parallel_watched};
 use explorer::Unwatched;
 use lock_explorer::{
     Bounds, CrashCounts, Variables, shortest_schedule, shortest_schedule_in_parallel,
@@ -26,6 +26,24 @@ const VARIANTS: [Variant; 7] = [
 
 const JOBS: [u64; 5] = [0, 1, 2, 3, 7];
 
+/// Seeds, numbers of rounds, moves of each, and crashes of all in 1,000 moves.
+const ROUNDS: [(u64, u64, u64, u64); 6] = [
+    (1, 400, 60, 0),
+    (2, 333, 90, 0),
+    (3, 50, 20, 0),
+    (4, 1, 700, 0),
+    (5, 400, 60, 30),
+    (6, 50, 20, 1_000),
+];
+
+fn drawn(seed: u64, steps: u64, system_crashes: u64) -> RandomMoves {
+    RandomMoves {
+        seed,
+        steps,
+        system_crashes,
+    }
+}
+
 /// The text of what a hunt has found; no text, where it has found nothing.
 fn text_of(alloc: Global, found: Option<Schedule>) -> Result<Option<Vec<u8>>, Fail> {
     match found {
@@ -39,31 +57,40 @@ fn is_found(
     rt: &(impl Threads + Sync),
     alloc: Global,
     variant: Variant,
-    seed: u64,
+    asked: RandomMoves,
     rounds: u64,
-    steps: u64,
 ) -> Result<bool, Fail> {
-    let one = text_of(alloc, hunt(alloc, variant, seed, rounds, steps)?)?;
+    let one = text_of(
+        alloc,
+        hunt_watched(alloc, variant, asked, rounds, &mut Unwatched)?,
+    )?;
     for jobs in JOBS {
-        let found = hunt_in_parallel(rt, alloc, jobs, variant, seed, rounds, steps)?;
+        let found = hunt_in_parallel(rt, alloc, jobs, variant, asked, rounds)?;
         if text_of(alloc, found)? != one {
-            return Err(Fail::new(format_args!("{variant:?} {seed} {jobs}")));
+            return Err(Fail::new(format_args!("{variant:?} {asked:?} {jobs}")));
+        }
+    }
+    if asked.system_crashes == 0 {
+        let plain = hunt(alloc, variant, asked.seed, rounds, asked.steps)?;
+        if text_of(alloc, plain)? != one {
+            return Err(Fail::new(format_args!("{variant:?} {asked:?}")));
         }
     }
     Ok(one.is_some())
 }
 
 /// Hunts by seed 1, of rounds of 1,000 moves, find a schedule of each wrong variant. The right lock has fewer rounds. Others have
-/// rounds of few moves, so that the one that finds is of a late batch, or none is.
+/// rounds of few moves, so that the one that finds is of a late batch, or none is. In some, a number of 1,000 moves are crashes of all.
 #[test]
 fn the_same_schedule_for_any_number_of_jobs(rt: HostRuntime) -> Result<(), Fail> {
     for variant in VARIANTS {
         let is_wrong = variant != Variant::Right;
         let rounds = if is_wrong { 10_000 } else { 40 };
-        let found = is_found(&rt, rt.alloc(), variant, 1, rounds, 1_000)?;
+        let found = is_found(&rt, rt.alloc(), variant, drawn(1, 1_000, 0), rounds)?;
         assert!(rt; found == is_wrong, "{variant:?}");
-        for (seed, rounds, steps) in [(1, 400, 60), (2, 333, 90), (3, 50, 20), (4, 1, 700)] {
-            is_found(&rt, rt.alloc(), variant, seed, rounds, steps)?;
+        for (seed, rounds, steps, system_crashes) in ROUNDS {
+            let asked = drawn(seed, steps, system_crashes);
+            is_found(&rt, rt.alloc(), variant, asked, rounds)?;
         }
     }
     Ok(())
@@ -78,7 +105,8 @@ fn a_hunt_by_jobs_is_refused_by_its_size(rt: HostRuntime) {
         (1, 10_001, HuntFault::BadSteps),
     ] {
         for jobs in JOBS {
-            let found = hunt_in_parallel(&rt, rt.alloc(), jobs, Variant::Right, 1, rounds, steps);
+            let asked = drawn(1, steps, 0);
+            let found = hunt_in_parallel(&rt, rt.alloc(), jobs, Variant::Right, asked, rounds);
             assert!(rt; found.err() == Some(fault), "{rounds} {steps} {jobs}");
         }
     }
@@ -94,7 +122,8 @@ fn is_reported_once(
         all: Vec::new(alloc),
     };
     let variant = Variant::Right;
-    let found = hunt_in_parallel_watched(rt, alloc, jobs, variant, 1, 5, 10, &mut reports)?;
+    let asked = drawn(1, 10, 0);
+    let found = hunt_in_parallel_watched(rt, alloc, jobs, variant, asked, 5, &mut reports)?;
     let rounds = [(0, 0), (1, 10), (2, 20), (3, 30), (4, 40)];
     Ok(found.is_none() && reports.all.as_slice() == rounds.as_slice())
 }
@@ -104,7 +133,7 @@ fn each_round_is_reported_once(rt: HostRuntime) -> Result<(), Fail> {
     let mut reports = Report {
         all: Vec::new(rt.alloc()),
     };
-    let found = hunt_watched(rt.alloc(), Variant::Right, 1, 4, 10, &mut reports)?;
+    let found = hunt_watched(rt.alloc(), Variant::Right, drawn(1, 10, 0), 4, &mut reports)?;
     let rounds = [(0, 0), (1, 10), (2, 20), (3, 30)];
     assert!(rt; found.is_none() && reports.all.as_slice() == rounds.as_slice());
     drop(reports);

@@ -1,15 +1,16 @@
 use Rattle.std.proofs.Common.{◌≡◌, Some, None, slice_get, inr, rules}
 use Rattle.std.proofs.lemmas.Result.{err_from_is_err_and}
 use Rattle.algorithm_texts.specs.Drafts.{draft_view}
+use Rattle.algorithm_texts.specs.PromiseLines.{promises_said}
 use Rattle.algorithm_texts.proofs.FormFaults.{draft_begins, first_missing, first_stops, head_then}
-use Rattle.algorithm_texts.proofs.TextBeginnings.{text_begun, no_first, head_refuses, no_promises}
+use Rattle.algorithm_texts.proofs.TextBeginnings.{text_begun, no_first, head_refuses, promises_refuse}
 use Rattle.algorithm_texts.proofs.drafts.draft.Goals as goal
 
 pub returns-in-Ok-clause-ok : goal.returns-in-Ok-clause-ok
 returns-in-Ok-clause-ok c =
     let first : slice_get c.args.lines.now 0 ≡ Some c.in-Some.first.now = first_of (search rules, cc) in
     let h = c.in_ok-algorithm.ensures.ok in
-    text_begun c.args.lines.now c.in-Some.first.now h.0 c.in-Ok.promises c.in-Ok.number (draft_view c.new_draft.result) first h.1 c.in-Ok.ensures.ok (c.new_draft.ensures h.0 h.2)
+    text_begun c.args.lines.now c.in-Some.first.now h.0 (promises_said c.in-Ok.said) c.in-Ok.number (draft_view c.new_draft.result) first h.1 c.in-Ok.ensures.ok (c.new_draft.ensures h.0 h.2)
 
 pub returns-in-None-clause-err : goal.returns-in-None-clause-err
 returns-in-None-clause-err c =
@@ -25,13 +26,13 @@ returns-in_err-algorithm-clause-err c =
 pub returns-in-Err-clause-err : goal.returns-in-Err-clause-err
 returns-in-Err-clause-err c =
     let first : slice_get c.args.lines.now 0 ≡ Some c.in-Some.first.now = first_of (search rules, cc) in
-    inr (no_promises c.args.lines.now c.in-Some.first.now first c.in-Err.ensures.err)
+    promises_refuse c.args.lines.now c.in-Some.first.now c.in-Err.fault first c.in-Err.ensures.err
 
 pub returns-in-Ok-clause-begins : goal.returns-in-Ok-clause-begins
 returns-in-Ok-clause-begins c =
     let first : slice_get c.args.lines.now 0 ≡ Some c.in-Some.first.now = first_of (search rules, cc) in
     let h = c.in_ok-algorithm.ensures.ok in
-    draft_begins c.args.lines.now c.in-Some.first.now h.0 c.in-Ok.promises c.in-Ok.number (draft_view c.new_draft.result) first h.1 c.in-Ok.ensures.ok (c.new_draft.ensures h.0 h.2)
+    draft_begins c.args.lines.now c.in-Some.first.now h.0 (promises_said c.in-Ok.said) c.in-Ok.number (draft_view c.new_draft.result) first h.1 c.in-Ok.ensures.ok (c.new_draft.ensures h.0 h.2)
 
 pub returns-in-None-clause-first : goal.returns-in-None-clause-first
 returns-in-None-clause-first c =

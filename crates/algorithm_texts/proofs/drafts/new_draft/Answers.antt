@@ -4,7 +4,7 @@ use Rattle.algorithms.specs.declared.algorithm.NamedConstant.{NamedConstant}
 use Rattle.algorithms.specs.declared.algorithm.Declaration.{Declaration}
 use Rattle.algorithm_texts.specs.Operands.{row_of}
 use Rattle.algorithm_texts.specs.Parts.{term_of}
-use Rattle.algorithm_texts.specs.Drafts.{claim_form, line_of, extent_of, start_term}
+use Rattle.algorithm_texts.specs.Drafts.{claim_form, line_of, extent_of, start_term, step_terms}
 use Rattle.algorithm_texts.proofs.drafts.new_draft.Goals as goal
 
 pub returns : goal.returns
@@ -13,7 +13,8 @@ returns c = λ h e i. record {
     name = e.named i;
     least = e.least_is i;
     most = e.most_is i;
-    promises = c.args.promises;
+    promises = c.args.said.promises;
+    step_bounds = step_terms c.args.said.step_bounds;
     constants = ap (map (λ (k : NamedConstant). (string_bytes k.name, term_of k.value))) e.no_constants i;
     rows = ap (map row_of) e.no_rows i;
     bounds = ap (map (λ (d : Declaration). option_map (λ b. term_of b) d.bound)) e.no_declarations i;

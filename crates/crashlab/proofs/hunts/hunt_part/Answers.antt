@@ -5,7 +5,7 @@ use Rattle.crashlab.proofs.hunts.Drawn.{rounds_first, round_found, round_none, r
 use Rattle.crashlab.proofs.hunts.hunt_part.Goals as goal
 
 pub loop-init : goal.loop-init
-loop-init c = rounds_first (c.advance.ensures ∙ ap (advance 64 multiplier_64 (c.args.first * c.args.steps)) c.seed_from_u64-generator.ensures)
+loop-init c = rounds_first (c.advance.ensures ∙ ap (advance 64 multiplier_64 (c.args.first * c.args.asked.steps)) c.seed_from_u64-generator.ensures)
 
 pub loop-preserved : goal.loop-preserved
 loop-preserved c = round_none c.loop.invariant c.loop-test.true (sym c.in_default.is ∙ c.in_ok-found.ensures.exact) (c.in_ok-found.ensures.on (ap is_some c.in_default.is))

@@ -3,7 +3,7 @@ use Rattle.crashlab.proofs.hunts.Drawn.{at_start, rounds_first, round_found, rou
 use Rattle.crashlab.proofs.hunts.hunt_watched.Goals as goal
 
 pub loop-round-init : goal.loop-round-init
-loop-round-init g c = rounds_first (c.seed_from_u64-generator.ensures ∙ at_start c.args.seed c.args.steps)
+loop-round-init g c = rounds_first (c.seed_from_u64-generator.ensures ∙ at_start c.args.asked.seed c.args.asked.steps)
 
 pub loop-round-preserved : goal.loop-round-preserved
 loop-round-preserved g c = round_none c.loop-round.invariant c.loop-round-test.true (sym c.in_default.is ∙ c.in_ok-found.ensures.exact) (c.in_ok-found.ensures.on (ap is_some c.in_default.is))

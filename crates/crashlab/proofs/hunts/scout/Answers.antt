@@ -6,13 +6,13 @@ use Rattle.crashlab.proofs.hunts.Drawn.{drawn_first, drawn_refused, drawn_on, dr
 use Rattle.crashlab.proofs.hunts.scout.Goals as goal
 
 pub loop-init : goal.loop-init
-loop-init c = record { moves = []; drawn = drawn_first c.args.variant c.args.steps c.args.generator.now _ _ _ c.in_ok-world.ensures.begins c.new-observer.ensures }
+loop-init c = record { moves = []; drawn = drawn_first c.args.variant c.args.asked c.args.generator.now _ _ _ c.in_ok-world.ensures.begins c.new-observer.ensures }
 
 pub loop-preserved-in_default : goal.loop-preserved-in_default
 loop-preserved-in_default c =
     record {
       moves = c.loop.invariant.moves;
-      drawn = drawn_refused c.loop.invariant.drawn c.loop-test.true c.next_word.ensures c.draw-drawn.ensures.drawn (c.in_default.ensures.refused refl) (c.in_default.ensures.same refl);
+      drawn = drawn_refused c.loop.invariant.drawn c.loop-test.true c.next_word.ensures c.draw-drawn.ensures (c.in_default.ensures.refused refl) (c.in_default.ensures.same refl);
     }
 
 pub loop-preserved : goal.loop-preserved
@@ -21,14 +21,14 @@ loop-preserved c =
     (c.in-Some.ensures.ends c.args.variant (drawn_moves_of c.loop.invariant.moves) c.loop.invariant.drawn.played) in
     record {
       moves = c.loop.invariant.moves ++ c.draw-drawn.result ∷ [];
-      drawn = drawn_on c.loop.invariant.drawn c.loop-test.true c.next_word.ensures c.draw-drawn.ensures.drawn c.in-Some.ensures.accepted refl ends c.in-Some.ensures.observes;
+      drawn = drawn_on c.loop.invariant.drawn c.loop-test.true c.next_word.ensures c.draw-drawn.ensures c.in-Some.ensures.accepted refl ends c.in-Some.ensures.observes;
     }
 
 pub returns-in-Caught-clause-exact : goal.returns-in-Caught-clause-exact
 returns-in-Caught-clause-exact c =
     let ends = subst (λ m. EndsMove c.args.variant (with_line (drawn_moves_of c.loop.invariant.moves) (line_by c.draw-drawn.result)) c.make.new.world c.make.new.judge m) c.in-Caught.is
     (c.in-Some.ensures.ends c.args.variant (drawn_moves_of c.loop.invariant.moves) c.loop.invariant.drawn.played) in
-    ap outcome_of_round (sym (drawn_caught c.loop.invariant.drawn c.loop-test.true c.next_word.ensures c.draw-drawn.ensures.drawn c.in-Some.ensures.accepted ends))
+    ap outcome_of_round (sym (drawn_caught c.loop.invariant.drawn c.loop-test.true c.next_word.ensures c.draw-drawn.ensures c.in-Some.ensures.accepted ends))
 
 pub returns-clause-exact : goal.returns-clause-exact
 returns-clause-exact c = ap outcome_of_round (sym (drawn_all c.loop.invariant.drawn (omega (arith, c.loop-test.false, c.loop.auto.counter-end))).0)

@@ -6,5 +6,5 @@ use Rattle.crashlab.proofs.hunts.scout.Given as goal
 abbrev pub invariant-loop : goal.invariant-loop
 invariant-loop l = record {
   moves : List DrawnMove;
-  drawn : IsDrawn (drawn_round l.fn.variant l.fn.steps l.initial.generator) l.counter moves l.world l.judge l.observer l.generator;
+  drawn : IsDrawn (drawn_round l.fn.variant l.fn.asked l.initial.generator) l.counter moves l.world l.judge l.observer l.generator;
 }

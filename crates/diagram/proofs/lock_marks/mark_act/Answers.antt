@@ -1,7 +1,7 @@
 use Rattle.std.proofs.Common.{◌∷◌, ◌++◌, [], subst}
 use Rattle.algorithms.specs.declared.remote_references.memory_event.MemoryEvent.{MemoryEvent}
 use Rattle.algorithms.specs.remote_references.CopyRows.{AreCopiesAfter}
-use Rattle.diagram.specs.LockMarks.{lock_declarations}
+use Rattle.passages.specs.LockMemory.{lock_declarations}
 use Rattle.diagram.proofs.lock_marks.mark_act.Goals as goal
 
 pub returns-clause-marked : goal.returns-clause-marked

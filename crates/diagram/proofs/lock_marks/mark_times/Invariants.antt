@@ -1,7 +1,8 @@
 use Rattle.std.proofs.Common.{List}
 use Rattle.algorithms.specs.declared.remote_references.memory_event.MemoryEvent.{MemoryEvent}
 use Rattle.algorithms.specs.remote_references.CopyRows.{AreCopiesAfter}
-use Rattle.diagram.specs.LockMarks.{lock_declarations, MarksRows}
+use Rattle.passages.specs.LockMemory.{lock_declarations}
+use Rattle.diagram.specs.LockMarks.{MarksRows}
 use Rattle.diagram.proofs.Common.{replicate}
 use Rattle.diagram.proofs.lock_marks.mark_times.Given as goal
 

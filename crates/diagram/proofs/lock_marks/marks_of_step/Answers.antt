@@ -6,4 +6,4 @@ pub returns : goal.returns
 returns c = λ run copies.
     let many = c.lock_declarations-declarations.ensures in
     c.marks_at.ensures run (subst (λ (n : ℕ). AreCopiesAfter n run c.args.copies.now) (sym many) copies)
-    ∙ rw (many, c.home_of_word-home.ensures, c.lock_access-access.ensures) refl
+    ∙ rw (many, c.lock_home-home.ensures, c.access_of-access.ensures) refl

@@ -6,11 +6,11 @@ use Rattle.crashlab.proofs.hunts.parallel_hunts.+shared.Goals as goal
 
 pub returns-in-Some-clause-exact : goal.returns-in-Some-clause-exact
 returns-in-Some-clause-exact g t c =
-    let front = IfOk-at_ok (λ found. found ≡ found_from c.args.variant c.args.seed c.args.steps c.args.first c.share-low.result) c.in_ok-front.was c.join-front.ensures.first.0 in
-    shared_found c.args.variant c.args.seed c.args.steps c.args.first c.share-low.result c.args.rounds c.share-low.ensures (sym c.in-Some.is ∙ front)
+    let front = IfOk-at_ok (λ found. found ≡ found_from c.args.variant c.args.asked c.args.first c.share-low.result) c.in_ok-front.was c.join-front.ensures.first.0 in
+    shared_found c.args.variant c.args.asked c.args.first c.share-low.result c.args.rounds c.share-low.ensures (sym c.in-Some.is ∙ front)
 
 pub returns-in-None-clause-exact : goal.returns-in-None-clause-exact
 returns-in-None-clause-exact g t c =
-    let front = IfOk-at_ok (λ found. found ≡ found_from c.args.variant c.args.seed c.args.steps c.args.first c.share-low.result) c.in_ok-front.was c.join-front.ensures.first.0 in
-    let back = IfOk-at_ok (λ found. found ≡ found_from c.args.variant c.args.seed c.args.steps (c.args.first + c.share-low.result) (c.args.rounds - c.share-low.result)) c.in_ok-back.was c.join-front.ensures.second.0 in
-    shared_none c.args.variant c.args.seed c.args.steps c.args.first c.share-low.result c.args.rounds c.share-low.ensures (sym c.in-None.is ∙ front) back
+    let front = IfOk-at_ok (λ found. found ≡ found_from c.args.variant c.args.asked c.args.first c.share-low.result) c.in_ok-front.was c.join-front.ensures.first.0 in
+    let back = IfOk-at_ok (λ found. found ≡ found_from c.args.variant c.args.asked (c.args.first + c.share-low.result) (c.args.rounds - c.share-low.result)) c.in_ok-back.was c.join-front.ensures.second.0 in
+    shared_none c.args.variant c.args.asked c.args.first c.share-low.result c.args.rounds c.share-low.ensures (sym c.in-None.is ∙ front) back

@@ -8,8 +8,7 @@ ghost use Rattle.schedule.specs.Schedules.{spelling};
 
 use crate::algorithm_explore_command::{asked_search, schedule_of};
 use algorithm_explorer::{
-    AlgorithmExploreFault, AlgorithmMove, Lasso, StarvingOutcome,
-    starving_algorithm_schedule,
+    AlgorithmExploreFault, AlgorithmMove, Lasso, StarvingOutcome, starving_algorithm_schedule,
 };
 use algorithms::InitializedAlgorithm;
 use cli::arguments::args::{AlgorithmExploreArgs, Cycles};
@@ -51,13 +50,7 @@ pub(crate) fn tell_starving<S: Screen, W: Sink>(
 {
     let search = asked_search(alloc, algorithm, args)?;
     let mut meter = Meter::new(screen, Work::Search);
-    let found = starving_algorithm_schedule(
-        alloc,
-        search,
-        is_any(cycles),
-        args.states,
-        &mut meter,
-    );
+    let found = starving_algorithm_schedule(alloc, search, is_any(cycles), args.states, &mut meter);
     meter.end();
     match found {
         Ok(StarvingOutcome::Fault(_)) => unreachable!(),

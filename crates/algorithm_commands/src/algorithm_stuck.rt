@@ -5,9 +5,7 @@ ghost use Rattle.algorithm_commands.specs.AlgorithmExplores.{StuckSearchEnds};
 ghost use Rattle.command_parts.specs.Endings.{IsEnded};
 
 use crate::algorithm_explore_command::{asked_search, tell_path};
-use algorithm_explorer::{
-    AlgorithmExploreFault, StuckOutcome, stuck_algorithm_schedule,
-};
+use algorithm_explorer::{AlgorithmExploreFault, StuckOutcome, stuck_algorithm_schedule};
 use algorithms::InitializedAlgorithm;
 use cli::arguments::args::AlgorithmExploreArgs;
 use command_parts::findings::tell_never;
@@ -29,12 +27,7 @@ pub(crate) fn tell_stuck<S: Screen, W: Sink>(
 {
     let search = asked_search(alloc, algorithm, args)?;
     let mut meter = Meter::new(screen, Work::Search);
-    let found = stuck_algorithm_schedule(
-        alloc,
-        search,
-        args.states,
-        &mut meter,
-    );
+    let found = stuck_algorithm_schedule(alloc, search, args.states, &mut meter);
     meter.end();
     match found {
         Ok(StuckOutcome::Fault(path)) => tell_path(alloc, args, &path, w),

@@ -35,5 +35,8 @@ returns-in-Ok-Nowhere-clause-ends g c =
 
 pub returns-in-Err-Refused-clause-ends : goal.returns-in-Err-Refused-clause-ends
 returns-in-Err-Refused-clause-ends g c =
-    inr (inr (inr (inl (refl, no_size c.args.algorithm c.args.args.now (search_of c.in_ok-search.search) c.in-Err-Refused.field-0-0 _ c.in_ok-search.ensures
-    ((c.shortest_schedule_in_range-found.ensures.refused c.in-Err-Refused.field-0-0).0 (search rules))))))
+    inr (inr (inr (inl (
+      refl,
+      no_size c.args.algorithm c.args.args.now (search_of c.in_ok-search.search) c.in-Err-Refused.field-0-0 _ c.in_ok-search.ensures
+          ((c.shortest_schedule_in_range-found.ensures.refused c.in-Err-Refused.field-0-0).0 (search rules)),
+    ))))

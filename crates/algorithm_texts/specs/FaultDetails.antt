@@ -9,11 +9,11 @@ use Rattle.algorithm_texts.specs.BlockLines.{block_line, innermost_open, open_bl
 use Rattle.algorithm_texts.specs.declared.block_lines.BlockLine.{BlockLine}
 use Rattle.algorithm_texts.specs.declared.block_lines.BlockLine.TheVariants.{BeginsFor, IsElse, IsEnd}
 use Rattle.algorithm_texts.specs.declared.fault_details.FaultDetail.{FaultDetail}
-use Rattle.algorithm_texts.specs.declared.fault_details.FaultDetail.TheVariants.{Tab, CarriageReturn, Unprintable, NoToken, LeadingZero, LargeNumber, LongName, LongLine, NoThen, WrongIndexes, ReservedWord, UnfitDeed, AtColumn, NoEnd, NoBlock, NoIf}
+use Rattle.algorithm_texts.specs.declared.fault_details.FaultDetail.TheVariants.{Tab, CarriageReturn, Unprintable, NoToken, LeadingZero, LargeNumber, LongName, LongLine, NoThen, WrongIndexes, ReservedWord, EqualSign, UnfitDeed, AtColumn, NoEnd, NoBlock, NoIf}
 use Rattle.algorithm_texts.specs.declared.index_counts.IndexCount.{IndexCount}
 use Rattle.algorithm_texts.specs.declared.tokens.Token.{Token}
 use Rattle.algorithm_texts.specs.IndexCounts.{first_miscount}
-use Rattle.algorithm_texts.specs.NamePlaces.{name_place, label_place, deed_place, is_reserved_at}
+use Rattle.algorithm_texts.specs.NamePlaces.{name_place, label_place, deed_place, equal_place, is_reserved_at}
 use Rattle.algorithm_texts.specs.NameUses.{second_access, unknown_place}
 use Rattle.algorithm_texts.specs.TokenPlaces.{token_places, read_at, is_word_at, is_word_of, column_of}
 use Rattle.algorithm_texts.specs.Tokens.{is_printable, before_comment}
@@ -66,6 +66,9 @@ taken_detail code places = option_map (taken_detail_at code) (name_place code pl
 abbrev pub deed_detail : List ℕ → List ℕ → Option FaultDetail
 deed_detail code places = option_map (λ place. UnfitDeed (column_of code place)) (deed_place code places)
 
+abbrev pub equal_detail : List ℕ → List ℕ → Option FaultDetail
+equal_detail code places = option_map (λ place. EqualSign (column_of code place)) (equal_place code places)
+
 -- ---- blocks
 
 -- of a line after which lines it ends a block or is an `else`, within this block
@@ -94,7 +97,8 @@ index_detail lines code places =
 
 abbrev pub form_detail : List (List ℕ) → List ℕ → List ℕ → Option FaultDetail
 form_detail lines code places =
-    option_or (last_token_detail code places) (option_or (no_then_detail code places) (index_detail lines code places))
+    option_or (last_token_detail code places)
+    (option_or (no_then_detail code places) (option_or (index_detail lines code places) (equal_detail code places)))
 
 -- a shared word that is not the line's access
 abbrev pub access_detail : List (List ℕ) → List ℕ → List ℕ → Option FaultDetail

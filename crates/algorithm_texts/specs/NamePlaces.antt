@@ -1,11 +1,12 @@
 -- The places of the names that lines declare, set or go to.
-use Rattle.std.specs.Prelude.{ℕ, Bool, false, not, ◌&&◌, ◌||◌, List, [], ◌∷◌, slice_get, Option, Some, None, if◌then◌else◌, codes}
+use Rattle.std.specs.Prelude.{ℕ, Bool, false, not, ◌&&◌, ◌||◌, List, [], ◌∷◌, drop, slice_get, position, Option, Some, None, is_some, option_and_then, if◌then◌else◌, codes}
 use Rattle.std.specs.List.{list_any}
 use Rattle.std.specs.Option.{option_or}
-use Rattle.algorithm_texts.specs.declared.tokens.Sign.TheVariants.{Assign, Colon, Comma}
+use Rattle.algorithms.specs.declared.condition.Comparison.TheVariants.{Equal}
+use Rattle.algorithm_texts.specs.declared.tokens.Sign.TheVariants.{Assign, Colon, Comma, OpenIndex, Comparison}
 use Rattle.algorithm_texts.specs.Grammar.{is_among}
 use Rattle.algorithm_texts.specs.Operands.{reserved}
-use Rattle.algorithm_texts.specs.TokenPlaces.{word_at, is_word_at, is_word_of, is_sign_of, places_after}
+use Rattle.algorithm_texts.specs.TokenPlaces.{word_at, is_word_at, is_word_of, is_sign_at, is_sign_of, places_after}
 
 -- the tokens of the statement of a line: of an `if` those after `then`
 abbrev pub statement_places : List ℕ → List ℕ → List ℕ
@@ -70,3 +71,23 @@ label_place code places =
 -- the deed that a line says
 abbrev pub deed_place : List ℕ → List ℕ → Option ℕ
 deed_place code places = slice_get (places_after (codes "is") code places) 0
+
+-- the tokens of a statement from the name on that it sets
+abbrev pub set_places : List ℕ → List ℕ → List ℕ
+set_places code places = if is_word_of (codes "await") code (slice_get places 0) then drop 1 places else places
+
+-- a name, with an index or without, comes before a `=`, and there is no `:=`
+abbrev pub is_set_by_equal : List ℕ → List ℕ → Bool
+is_set_by_equal code places =
+    (is_sign_of (Comparison Equal) code (slice_get places 1) || is_sign_of OpenIndex code (slice_get places 1))
+    && (not (is_some (position (is_sign_at Assign code) places)) && not (named_second code (slice_get places 0)))
+
+abbrev pub equal_among : List ℕ → List ℕ → Option ℕ
+equal_among code places = option_and_then (slice_get places) (position (is_sign_at (Comparison Equal) code) places)
+
+abbrev pub equal_in : List ℕ → List ℕ → Option ℕ
+equal_in code places = if is_set_by_equal code places then equal_among code places else None
+
+-- the `=` by which a statement sets a name
+abbrev pub equal_place : List ℕ → List ℕ → Option ℕ
+equal_place code places = equal_in code (set_places code (statement_places code places))

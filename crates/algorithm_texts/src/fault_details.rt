@@ -3,11 +3,11 @@
 ghost use Rattle.std.specs.Prelude.{◌≡◌, not, map, take, position, slice_index, IfOk};
 ghost use Rattle.std.specs.Char.{is_ascii_digit};
 ghost use Rattle.algorithm_texts.specs.Tokens.{is_printable};
-ghost use Rattle.algorithm_texts.specs.FaultDetails.{byte_detail, unprintable_detail, large_token, detail_at, last_token_detail, no_then_detail, at_column, taken_detail_at, taken_detail, deed_detail, own_detail, last_line_detail, block_detail, bytes_detail, index_detail, form_detail, access_detail, unknown_detail, token_details, line_detail, lines_of, is_of_blocks, detail_in, fault_detail};
+ghost use Rattle.algorithm_texts.specs.FaultDetails.{byte_detail, unprintable_detail, large_token, detail_at, last_token_detail, no_then_detail, at_column, taken_detail_at, taken_detail, deed_detail, equal_detail, own_detail, last_line_detail, block_detail, bytes_detail, index_detail, form_detail, access_detail, unknown_detail, token_details, line_detail, lines_of, is_of_blocks, detail_in, fault_detail};
 
 use crate::block_lines::{BlockLine, block_lines, innermost_open, open_block};
 use crate::index_counts::first_miscount;
-use crate::name_places::{deed_place, is_reserved_at, label_place, name_place};
+use crate::name_places::{deed_place, equal_place, is_reserved_at, label_place, name_place};
 use crate::name_uses::{second_access, unknown_place};
 use crate::token_places::{column_of, has_word, is_word_of, read_at, token_places};
 use crate::tokens::before_comment;
@@ -55,6 +55,10 @@ pub enum FaultDetail {
     },
     /// A word of the format as a name.
     ReservedWord {
+        column: u64,
+    },
+    /// A `=` where `:=` is meant.
+    EqualSign {
         column: u64,
     },
     /// The deed of a line.
@@ -198,6 +202,18 @@ fn deed_detail(code: &[u8], places: &[usize]) -> Option<FaultDetail>
     }
 }
 
+/// What is said of a `=` by which a name is set.
+fn equal_detail(code: &[u8], places: &[usize]) -> Option<FaultDetail>
+    ensures { result ≡ equal_detail code.now places.now }
+{
+    match equal_place(code, places) {
+        Some(place) => Some(FaultDetail::EqualSign {
+            column: column_of(code, place),
+        }),
+        None => None,
+    }
+}
+
 // ---- blocks
 
 /// What is said of a line that ends no block, or is an `else`, within this block.
@@ -270,7 +286,7 @@ fn index_detail(
     }
 }
 
-/// What is said of a number with a leading zero, else of an `if` without `then`, else of indexes.
+/// What is said of a number with a leading zero, else of an `if` without `then`, else of indexes, else of a `=` for `:=`.
 fn form_detail(
     alloc: Global,
     lines: &[&[u8]],
@@ -285,7 +301,10 @@ fn form_detail(
     if let Some(detail) = no_then_detail(code, places) {
         return Ok(Some(detail));
     }
-    index_detail(alloc, lines, code, places)
+    match index_detail(alloc, lines, code, places)? {
+        Some(detail) => Ok(Some(detail)),
+        None => Ok(equal_detail(code, places)),
+    }
 }
 
 /// What is said of a word that these lines declare, where it is not the line's access.

@@ -2,11 +2,14 @@
 
 ghost use Rattle.std.specs.Prelude.{◌≡◌};
 ghost use Rattle.std.specs.Option.{option_copied};
-ghost use Rattle.algorithm_texts.specs.NamePlaces.{statement_places, named_before, named_second, own_place, is_reserved_word, is_reserved_at, reserved_place, second_process, claim_place, is_claim, name_place, claimed_label_place, label_place, deed_place};
+ghost use Rattle.algorithm_texts.specs.NamePlaces.{statement_places, named_before, named_second, own_place, is_reserved_word, is_reserved_at, reserved_place, second_process, claim_place, is_claim, name_place, claimed_label_place, label_place, deed_place, set_places, is_set_by_equal, equal_among, equal_in, equal_place};
 
 use crate::names::is_reserved;
-use crate::token_places::{has_word, is_sign_of, is_word_of, places_after, word_at};
+use crate::token_places::{
+    has_word, is_sign_of, is_word_at, is_word_of, places_after, sign_among, word_at,
+};
 use crate::tokens::{LineWord, Sign};
+use algorithms::condition::Comparison;
 
 /// The tokens of the statement of a line: of an `if` those after `then`.
 fn statement_places<'p>(code: &[u8], places: &'p [usize]) -> &'p [usize]
@@ -146,4 +149,53 @@ pub fn deed_place(code: &[u8], places: &[usize]) -> Option<usize>
     ensures { result ≡ deed_place code.now places.now }
 {
     places_after(b"is", code, places).first().copied()
+}
+
+/// The tokens of a statement from the name on that it sets.
+fn set_places<'p>(code: &[u8], places: &'p [usize]) -> &'p [usize]
+    ensures { result.now ≡ set_places code.now places.now }
+{
+    match places.split_first() {
+        Some((first, rest)) if is_word_at(b"await", code, *first) => rest,
+        _ => places,
+    }
+}
+
+/// Whether a name, with an index or without, comes before a `=`, and there is no `:=`.
+fn is_set_by_equal(code: &[u8], places: &[usize]) -> bool
+    ensures { result ≡ is_set_by_equal code.now places.now }
+{
+    let equal = Sign::Comparison(Comparison::Equal);
+    let second = places.get(1);
+    (is_sign_of(equal, code, second) || is_sign_of(Sign::OpenIndex, code, second))
+        && (sign_among(Sign::Assign, code, places).is_none()
+            && !is_named_second(code, places.first()))
+}
+
+/// The place of the first `=`.
+fn equal_among(code: &[u8], places: &[usize]) -> Option<usize>
+    ensures { result ≡ equal_among code.now places.now }
+{
+    match sign_among(Sign::Comparison(Comparison::Equal), code, places) {
+        Some(at) => places.get(at).copied(),
+        None => None,
+    }
+}
+
+/// The place of a `=` for `:=`, from the name on that is set.
+fn equal_in(code: &[u8], places: &[usize]) -> Option<usize>
+    ensures { result ≡ equal_in code.now places.now }
+{
+    if is_set_by_equal(code, places) {
+        equal_among(code, places)
+    } else {
+        None
+    }
+}
+
+/// The place of a `=` by which a statement sets a name.
+pub fn equal_place(code: &[u8], places: &[usize]) -> Option<usize>
+    ensures { result ≡ equal_place code.now places.now }
+{
+    equal_in(code, set_places(code, statement_places(code, places)))
 }

@@ -148,6 +148,15 @@ fn word_among(word: &[u8], code: &[u8], places: &[usize]) -> Option<usize>
         .position(|place| is_word_at(word, code, *place))
 }
 
+/// Which of these tokens is the first that is this sign.
+pub fn sign_among(sign: Sign, code: &[u8], places: &[usize]) -> Option<usize>
+    ensures { result ≡ position (is_sign_at sign code.now) places.now }
+{
+    places
+        .iter()
+        .position(|place| is_sign_at(sign, code, *place))
+}
+
 /// The tokens after the first one that is this word.
 pub fn places_after<'p>(word: &[u8], code: &[u8], places: &'p [usize]) -> &'p [usize]
     ensures { result.now ≡ places_after word.now code.now places.now }

@@ -82,6 +82,12 @@ detail of texts with a fault\n\
 == no such word is swapped\nalgorithm a for 2 processes\npromises exclusion\nshared flag[procs] up to 1\nshared turn\nshared board[procs][procs]\ncall lock\n  v := swap trun to 1\n  done\ncall unlock\n  turn := 0 this is leave\n  done\n--\nline 7: fault 6: AtColumn { column: 13 }\n\
 == the name of a loop after it\nalgorithm a for 2 processes\npromises exclusion\nshared flag[procs] up to 1\nshared turn\nshared board[procs][procs]\ncall lock\n  for j in all\n    turn := j\n  end\n  turn := j\n  done\ncall unlock\n  turn := 0 this is leave\n  done\n--\nline 10: fault 6\n\
 == no such process\nalgorithm a for 2 processes\npromises exclusion\nshared flag[procs] up to 1\nshared turn\nshared board[procs][procs]\nnever for p: q is inside\n--\nline 6: fault 6\n\
+== a name is set by an equal sign\nalgorithm a for 2 processes\npromises exclusion\nshared flag[procs] up to 1\nshared turn\nshared board[procs][procs]\ncall lock\n  turn = 1\n  done\ncall unlock\n  turn := 0 this is leave\n  done\n--\nline 7: fault 4: EqualSign { column: 8 }\n\
+== an array is set by an equal sign\nalgorithm a for 2 processes\npromises exclusion\nshared flag[procs] up to 1\nshared turn\nshared board[procs][procs]\ncall lock\n  flag[me] = 1\n  done\ncall unlock\n  turn := 0 this is leave\n  done\n--\nline 7: fault 4: EqualSign { column: 12 }\n\
+== an equal sign after then\nalgorithm a for 2 processes\npromises exclusion\nshared flag[procs] up to 1\nshared turn\nshared board[procs][procs]\ncall lock\n  v := turn\n  if v = 1 then v = 2\n  done\ncall unlock\n  turn := 0 this is leave\n  done\n--\nline 8: fault 4: EqualSign { column: 19 }\n\
+== a word is awaited by an equal sign\nalgorithm a for 2 processes\npromises exclusion\nshared flag[procs] up to 1\nshared turn\nshared board[procs][procs]\ncall lock\n  await v = turn until v = 0\n  done\ncall unlock\n  turn := 0 this is leave\n  done\n--\nline 7: fault 4: EqualSign { column: 11 }\n\
+== a condition as a value\nalgorithm a for 2 processes\npromises exclusion\nshared flag[procs] up to 1\nshared turn\nshared board[procs][procs]\ncall lock\n  v := me = 1\n  done\ncall unlock\n  turn := 0 this is leave\n  done\n--\nline 7: fault 4\n\
+== a word is declared with an equal sign\nalgorithm a for 2 processes\npromises exclusion\nshared flag[procs] up to 1\nshared turn\nshared board[procs][procs]\nshared x = 0\n--\nline 6: fault 4\n\
 == a fault of which no more is said\nalgorithm a for 2 processes\npromises exclusion\nshared flag[procs] up to 1\nshared turn\nshared board[procs][procs]\ncall lock\n  turn := 1\n  done\n  turn := 2\n  done\ncall unlock\n  turn := 0 this is leave\n  done\n--\nline 9: fault 18\n\
 ";
 
@@ -129,6 +135,7 @@ fn column_in(detail: FaultDetail) -> Option<u64> {
         | FaultDetail::LongName { column }
         | FaultDetail::WrongIndexes { column, .. }
         | FaultDetail::ReservedWord { column }
+        | FaultDetail::EqualSign { column }
         | FaultDetail::UnfitDeed { column }
         | FaultDetail::AtColumn { column } => Some(column),
         _ => None,

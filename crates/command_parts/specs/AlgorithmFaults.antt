@@ -48,6 +48,7 @@ column_of_detail details.LongLine = Some 1001
 column_of_detail details.NoThen = None
 column_of_detail (details.WrongIndexes column declared given) = Some column
 column_of_detail (details.ReservedWord column) = Some column
+column_of_detail (details.EqualSign column) = Some column
 column_of_detail (details.UnfitDeed column) = Some column
 column_of_detail (details.AtColumn column) = Some column
 column_of_detail (details.NoEnd line) = None
@@ -67,6 +68,7 @@ words_of_detail details.LongLine = codes "a line of more than 1000 characters"
 words_of_detail details.NoThen = codes "an `if` without `then`"
 words_of_detail (details.WrongIndexes column declared given) = []
 words_of_detail (details.ReservedWord column) = codes "a word of the format as a name"
+words_of_detail (details.EqualSign column) = codes "a `=` where `:=` is meant"
 words_of_detail (details.UnfitDeed column) = codes "this deed does not fit here"
 words_of_detail (details.AtColumn column) = []
 words_of_detail (details.NoEnd line) = []

@@ -76,6 +76,7 @@ pub(crate) fn column_of_detail(detail: FaultDetail) -> Option<u64>
         | FaultDetail::LongName { column }
         | FaultDetail::WrongIndexes { column, .. }
         | FaultDetail::ReservedWord { column }
+        | FaultDetail::EqualSign { column }
         | FaultDetail::UnfitDeed { column }
         | FaultDetail::AtColumn { column } => Some(column),
         FaultDetail::LongLine => Some(1001),
@@ -102,6 +103,7 @@ pub(crate) fn words_of_detail(detail: FaultDetail) -> &'static str
         FaultDetail::LongLine => "a line of more than 1000 characters",
         FaultDetail::NoThen => "an `if` without `then`",
         FaultDetail::ReservedWord { .. } => "a word of the format as a name",
+        FaultDetail::EqualSign { .. } => "a `=` where `:=` is meant",
         FaultDetail::UnfitDeed { .. } => "this deed does not fit here",
         FaultDetail::WrongIndexes { .. }
         | FaultDetail::NoEnd { .. }

@@ -149,6 +149,15 @@ call unlock
   done
 @err
 rmelab: algorithm line 4: fault 15: a deed does not fit, or `enter` or `leave` is missing
+@row rmelab explore --algorithm a.lock --procs 2 @ends 2 @file a.lock
+algorithm a for 2 processes
+promises exclusion
+shared x
+call lock
+  x = 1
+  done
+@err
+rmelab: algorithm line 5, column 5: fault 4: a `=` where `:=` is meant
 @row rmelab replay --algorithm a.lock b.rme @file a.lock PETERSON @ends 2 @file b.rme
 rme 1 procs 3 limit 1 cap 1
 lock 0

@@ -7,7 +7,7 @@ use crate::replays::{
 };
 use crate::searches::{
     algorithm_costs, algorithm_explores, algorithm_faults, algorithm_runs, explores, hunts,
-    named_texts, shrinks, states, watched,
+    named_texts, shrinks, states, variant_costs, watched,
 };
 use crate::support::invocation::all_come_to;
 use std::test::Fail;
@@ -101,8 +101,13 @@ fn searches_of_algorithms(rt: HostRuntime) -> Result<(), Fail> {
     Ok(())
 }
 
-/// Searches of the lock, and progress.
-const SEARCHES: [&str; 2] = [explores::EXPLORES, watched::SHOWN];
+/// Searches of the lock, its costs, and progress.
+const SEARCHES: [&str; 4] = [
+    explores::EXPLORES,
+    variant_costs::COSTS_OF_VARIANTS,
+    variant_costs::COSTS_OF_TWO,
+    watched::SHOWN,
+];
 
 #[test]
 fn searches_and_progress(rt: HostRuntime) -> Result<(), Fail> {

@@ -12,4 +12,5 @@ mod jobs;
 pub mod named_texts;
 pub mod shrinks;
 pub mod states;
+pub mod variant_costs;
 pub mod watched;

@@ -12,7 +12,7 @@ use Rattle.schedule.specs.Schedules.{Scheduled, schedule_at}
 use Rattle.schedule.specs.Tapes.{Tape, Reading}
 use Rattle.schedule.specs.Wholes.{WasRead}
 use Rattle.command_parts.specs.declared.fault.CommandFault.TheVariants as faults
-use Rattle.algorithm_commands.specs.AlgorithmTexts.{EndsOnAlgorithm, EndsOnBoth, HasNumber, IsAlgorithmFault, IsUnreadAlgorithm, TellsFault, TellsLineFault, text_of}
+use Rattle.algorithm_commands.specs.AlgorithmTexts.{EndsOnAlgorithm, EndsOnBoth, HasFaultNumber, IsAlgorithmFault, IsUnreadAlgorithm, TellsFault, TellsLineFault, text_of}
 use Rattle.command_parts.specs.declared.ending.Ending.{Ending}
 use Rattle.command_parts.specs.declared.fault.CommandFault.{CommandFault}
 use Rattle.command_parts.specs.Endings.{FailsToRead, RefusesCommand, TellsReads}
@@ -20,7 +20,7 @@ use Rattle.command_parts.specs.ScheduleTexts.{IsWrongText}
 
 -- the command answers the fault of this line that has this number
 pub tells_fault : (text : List ℕ) (line number : ℕ) (of_text : ReadFault) (reports : CommandFault)
-    → HasNumber of_text number → TellsLineFault text line of_text reports
+    → HasFaultNumber of_text number → TellsLineFault text line of_text reports
     → TellsFault text (of_reading.At line number) reports
 tells_fault text line number of_text reports numbered tells = (of_text, tells, numbered)
 

@@ -31,12 +31,12 @@ abbrev pub TellsLineFault : List ℕ → ℕ → ReadFault → CommandFault → 
 TellsLineFault text line of_text reports = (reports ≡ faults.OutOfMemory) ⊎ (reports ≡ faults.Algorithm line of_text (fault_detail text line of_text))
 
 -- it is the fault with this number, if one has it
-abbrev pub HasNumber : ReadFault → ℕ → Type 0
-HasNumber of_text number = (1 ≤ number) × (number ≤ 18) → number_of_algorithm_fault of_text ≡ Some number
+abbrev pub HasFaultNumber : ReadFault → ℕ → Type 0
+HasFaultNumber of_text number = (1 ≤ number) × (number ≤ 18) → number_of_algorithm_fault of_text ≡ Some number
 
 -- a text that spells no algorithm has the fault of this number in this line
 pub record IsFaultyText (text : List ℕ) (line number : ℕ) (of_text : ReadFault) : Type 0 where
-  pub numbered : HasNumber of_text number
+  pub numbered : HasFaultNumber of_text number
   pub first : IsFaultOfText text (of_reading.At line number)
   pub none : SpellsNoAlgorithm text
 
@@ -50,7 +50,7 @@ IsAlgorithmFault file fault =
 -- the command's fault names the line of this fault of a text, and the fault with its number
 abbrev pub TellsFault : List ℕ → AlgorithmFault → CommandFault → Type 0
 TellsFault text (of_reading.At line number) reports =
-    (of_text : ReadFault) × TellsLineFault text line of_text reports × HasNumber of_text number
+    (of_text : ReadFault) × TellsLineFault text line of_text reports × HasFaultNumber of_text number
 TellsFault text of_reading.OutOfMemory reports = reports ≡ faults.OutOfMemory
 
 -- the text of the file spells an algorithm, whose local lines end; this holds of it

@@ -16,6 +16,7 @@ use crate::promised_steps::PromisedSteps;
 use crate::refusal::AlgorithmRefusal;
 use std::alloc::{AllocError, Global};
 use std::marker::Model;
+use std::mem;
 use std::sync::Arc;
 
 /// The greatest limit of numbers, 2^62.
@@ -274,7 +275,7 @@ impl AlgorithmWorld {
         ensures refused { IfErr result (λ e. crash self.old p ≡ Err e) }
         ensures err { OnErr result (self.new ≡ self.old) }
     {
-        self.process(p)?;
+        self.process_at(p)?;
         self.processes[p as usize] = AlgorithmProcess {
             place: AlgorithmPlace::Dead,
             store: [0; NAMES],
@@ -393,13 +394,13 @@ impl AlgorithmWorld {
         store(self.words.as_mut_slice(), access);
     }
 
-    /// For this workspace alone, as `seam_set_word`: sets the private memory of a process. One that is not there has none.
-    pub fn seam_set_process(&mut self, p: u64, process: AlgorithmProcess)
-        ensures { self.new ≡ with_process self.old p process }
+    /// For this workspace alone, as `seam_set_word`: takes these processes for its own, and gives its own for them.
+    pub fn seam_swap_processes(&mut self, processes: &mut Vec<AlgorithmProcess>)
+        requires { length processes.old.items ≡ self.old.procs }
+        ensures world { self.new ≡ record self.old { processes = processes.old.items } }
+        ensures given { processes.new.items ≡ self.old.processes }
     {
-        if let Some(place) = self.processes.get_mut(p as usize) {
-            *place = process;
-        }
+        mem::swap(&mut self.processes, processes);
     }
 
     /// What this process knows beside its private names.

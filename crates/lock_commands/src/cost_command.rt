@@ -7,14 +7,13 @@ ghost use Rattle.lock_commands.specs.Explores.{schedule_of as schedule_by};
 ghost use Rattle.lock_commands.specs.VariantCosts.{VariantCostEnds, question_of as question_asked};
 ghost use Rattle.schedule.specs.Schedules.{spelling};
 
-use crate::explore_command::{calls_of, counts_of, schedule_of};
+use crate::explore_command::{calls_of, counts_of, layout_of, schedule_of};
 use cli::arguments::args::VariantCostArgs;
 use command_parts::costs::{tell_costly_cycle, tell_costly_schedule};
 use command_parts::{CommandFault, Ending, Meter, Screen, Work};
 use lock_explorer::{
     CostQuestion, CostlySchedule, ExploreFault, Lasso, Move, PassageCost, variant_cost,
 };
-use redomail::Layout;
 use schedule::Sink;
 use std::alloc::Global;
 
@@ -80,14 +79,7 @@ pub fn variant_cost_command<S: Screen, W: Sink>(
     ensures ends { VariantCostEnds args.now (W.tape w.old) (W.tape w.new) result }
     ensures ended { IfOk result (IsEnded false (W.tape w.old).failures (W.tape w.new).failures) }
 {
-    if args.search.width == 0 || args.search.width > 8 {
-        return Err(CommandFault::BadSize);
-    }
-    let layout = Layout {
-        procs: args.search.procs,
-        cap: args.search.cap,
-        width: args.search.width,
-    };
+    let layout = layout_of(&args.search)?;
     let calls = calls_of(alloc, &args.search)?;
     let mut meter = Meter::new(screen, Work::Search);
     let found = variant_cost(

@@ -1,18 +1,18 @@
 -- How a command ends that reads an algorithm, from what was read.
-use Rattle.std.proofs.Common.{◌≡◌, ◌≤◌, ◌⊎◌, ℕ, List, Option, Result, Ok, Err, Some, refl, inl, inr}
+use Rattle.std.proofs.Common.{◌≡◌, ◌⊎◌, ℕ, List, Option, Result, Ok, Err, refl, inl, inr}
 use Rattle.algorithms.specs.Ranked.{LocalLinesEnd, AccessesLeadOn}
 use Rattle.algorithms.specs.declared.fault.AlgorithmFault.{AlgorithmFault}
 use Rattle.algorithms.specs.declared.fault.AlgorithmFault.TheVariants as of_reading
 use Rattle.algorithms.specs.declared.fault.ReadFault.{ReadFault}
 use Rattle.algorithms.specs.declared.first_values.InitializedAlgorithm.{InitializedAlgorithm}
 use Rattle.algorithm_texts.specs.Programs.{SpellsAlgorithm}
+use Rattle.algorithm_texts.specs.TextFaults.{IsFaultOfText, OrMemory}
 use Rattle.algorithm_texts.specs.TextLines.{IsRefusalOf}
-use Rattle.cli.specs.Names.{number_of_algorithm_fault}
 use Rattle.schedule.specs.Schedules.{Scheduled, schedule_at}
 use Rattle.schedule.specs.Tapes.{Tape, Reading}
 use Rattle.schedule.specs.Wholes.{WasRead}
 use Rattle.command_parts.specs.declared.fault.CommandFault.TheVariants as faults
-use Rattle.algorithm_commands.specs.AlgorithmTexts.{EndsOnAlgorithm, EndsOnBoth, IsAlgorithmFault, IsUnreadAlgorithm, TellsFault, TellsLineFault, text_of}
+use Rattle.algorithm_commands.specs.AlgorithmTexts.{EndsOnAlgorithm, EndsOnBoth, HasFaultNumber, IsAlgorithmFault, IsUnreadAlgorithm, TellsFault, TellsLineFault, text_of}
 use Rattle.command_parts.specs.declared.ending.Ending.{Ending}
 use Rattle.command_parts.specs.declared.fault.CommandFault.{CommandFault}
 use Rattle.command_parts.specs.Endings.{FailsToRead, RefusesCommand, TellsReads}
@@ -20,20 +20,21 @@ use Rattle.command_parts.specs.ScheduleTexts.{IsWrongText}
 
 -- the command answers the fault of this line that has this number
 pub tells_fault : (text : List ℕ) (line number : ℕ) (of_text : ReadFault) (reports : CommandFault)
-    → ((1 ≤ number) × (number ≤ 18) → number_of_algorithm_fault of_text ≡ Some number) → TellsLineFault text line of_text reports
+    → HasFaultNumber of_text number → TellsLineFault text line of_text reports
     → TellsFault text (of_reading.At line number) reports
 tells_fault text line number of_text reports numbered tells = (of_text, tells, numbered)
 
 -- what tells a fault of a text names it, or is out of memory
 pub is_algorithm_fault : (file : Option (List ℕ)) (fault : AlgorithmFault) (reports : CommandFault) → IsRefusalOf fault ((a : InitializedAlgorithm) × SpellsAlgorithm (text_of file) a)
-    → TellsFault (text_of file) fault reports → IsAlgorithmFault file reports
-is_algorithm_fault file (of_reading.At line number) reports (inl memory) tells = absurd (cc)
-is_algorithm_fault file (of_reading.At line number) reports (inr none) tells =
+    → OrMemory fault (IsFaultOfText (text_of file) fault) → TellsFault (text_of file) fault reports → IsAlgorithmFault file reports
+is_algorithm_fault file (of_reading.At line number) reports (inl memory) first tells = absurd (cc)
+is_algorithm_fault file (of_reading.At line number) reports (inr none) (inl memory) tells = absurd (cc)
+is_algorithm_fault file (of_reading.At line number) reports (inr none) (inr first) tells =
     elim tells.1 [
       | inl memory ↦ inl memory
-      | inr names ↦ inr (line, tells.0, names, λ a spells. none (a, spells))
+      | inr names ↦ inr (line, number, tells.0, names, record { numbered = tells.2; first = first; none = λ a spells. none (a, spells) })
     ]
-is_algorithm_fault file of_reading.OutOfMemory reports refuses tells = inl tells
+is_algorithm_fault file of_reading.OutOfMemory reports refuses first tells = inl tells
 
 -- the algorithm's text is at fault: nothing was written
 pub no_algorithm_alone : {B : Type 0} (file : Option (List ℕ)) (now : Tape) (fault : CommandFault) → IsAlgorithmFault file fault

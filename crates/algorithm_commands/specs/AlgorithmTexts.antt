@@ -7,6 +7,7 @@ use Rattle.algorithms.specs.declared.fault.ReadFault.{ReadFault}
 use Rattle.algorithms.specs.declared.first_values.InitializedAlgorithm.{InitializedAlgorithm}
 use Rattle.algorithm_texts.specs.FaultDetails.{fault_detail}
 use Rattle.algorithm_texts.specs.Programs.{SpellsAlgorithm}
+use Rattle.algorithm_texts.specs.TextFaults.{IsFaultOfText}
 use Rattle.cli.specs.Names.{number_of_algorithm_fault}
 use Rattle.schedule.specs.Schedules.{Scheduled, schedule_at}
 use Rattle.schedule.specs.Tapes.{Tape, Reading}
@@ -29,18 +30,27 @@ SpellsNoAlgorithm text = (a : InitializedAlgorithm) → SpellsAlgorithm text a �
 abbrev pub TellsLineFault : List ℕ → ℕ → ReadFault → CommandFault → Type 0
 TellsLineFault text line of_text reports = (reports ≡ faults.OutOfMemory) ⊎ (reports ≡ faults.Algorithm line of_text (fault_detail text line of_text))
 
--- the text of the algorithm's file is at fault, and spells no algorithm; or there is no memory
+-- it is the fault with this number, if one has it
+abbrev pub HasFaultNumber : ReadFault → ℕ → Type 0
+HasFaultNumber of_text number = (1 ≤ number) × (number ≤ 18) → number_of_algorithm_fault of_text ≡ Some number
+
+-- a text that spells no algorithm has the fault of this number in this line
+pub record IsFaultyText (text : List ℕ) (line number : ℕ) (of_text : ReadFault) : Type 0 where
+  pub numbered : HasFaultNumber of_text number
+  pub first : IsFaultOfText text (of_reading.At line number)
+  pub none : SpellsNoAlgorithm text
+
+-- the text of the algorithm's file is at fault, and its fault is named with its line; or there is no memory
 abbrev pub IsAlgorithmFault : Option (List ℕ) → CommandFault → Type 0
 IsAlgorithmFault file fault =
     (fault ≡ faults.OutOfMemory)
-    ⊎ ((line : ℕ) × (of_text : ReadFault) × (fault ≡ faults.Algorithm line of_text (fault_detail (text_of file) line of_text))
-    × SpellsNoAlgorithm (text_of file))
+    ⊎ ((line number : ℕ) × (of_text : ReadFault) × (fault ≡ faults.Algorithm line of_text (fault_detail (text_of file) line of_text))
+    × IsFaultyText (text_of file) line number of_text)
 
 -- the command's fault names the line of this fault of a text, and the fault with its number
 abbrev pub TellsFault : List ℕ → AlgorithmFault → CommandFault → Type 0
 TellsFault text (of_reading.At line number) reports =
-    (of_text : ReadFault) × TellsLineFault text line of_text reports
-    × ((1 ≤ number) × (number ≤ 18) → number_of_algorithm_fault of_text ≡ Some number)
+    (of_text : ReadFault) × TellsLineFault text line of_text reports × HasFaultNumber of_text number
 TellsFault text of_reading.OutOfMemory reports = reports ≡ faults.OutOfMemory
 
 -- the text of the file spells an algorithm, whose local lines end; this holds of it

@@ -4,4 +4,5 @@ use Rattle.algorithm_commands.proofs.algorithm_replay_command.algorithm_read.Goa
 
 pub returns-in-Err-clause-unread : goal.returns-in-Err-clause-unread
 returns-in-Err-clause-unread c =
-    is_algorithm_fault (option_copied c.args.text) c.in-Err.fault c.text_fault.result (rw c.text_of-bytes.ensures at c.in-Err.ensures.refuses) (rw c.text_of-bytes.ensures at c.text_fault.ensures)
+    is_algorithm_fault (option_copied c.args.text) c.in-Err.fault c.text_fault.result (rw c.text_of-bytes.ensures at c.in-Err.ensures.refuses) (rw c.text_of-bytes.ensures at c.in-Err.ensures.first)
+    (rw c.text_of-bytes.ensures at c.text_fault.ensures)

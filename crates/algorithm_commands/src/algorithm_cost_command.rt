@@ -1,21 +1,15 @@
 //! The command `cost`.
 
-ghost use Rattle.std.specs.Prelude.{◌≡◌, ◌++◌, false, length, IfOk, option_copied};
+ghost use Rattle.std.specs.Prelude.{◌≡◌, false, IfOk, option_copied};
 ghost use Rattle.algorithm_commands.specs.AlgorithmCosts.{AlgorithmCostEnds, CostsAlgorithm, question_of as question_asked};
-ghost use Rattle.algorithm_commands.specs.AlgorithmExplores.{schedule_of as schedule_by};
-ghost use Rattle.command_parts.specs.Costs.{cost_line as cost_line_by, unbounded_line as unbounded_line_by};
-ghost use Rattle.command_parts.specs.Endings.{IsEnded, Prints};
-ghost use Rattle.schedule.specs.Schedules.{spelling};
+ghost use Rattle.command_parts.specs.Endings.{IsEnded};
 
 use crate::algorithm_explore_command::{asked_search, schedule_of};
 use crate::algorithm_replay_command::algorithm_read;
-use algorithm_explorer::{
-    AlgorithmExploreFault, AlgorithmMove, CostQuestion, CostlySchedule, Lasso, PassageCost,
-    algorithm_cost,
-};
+use algorithm_explorer::{AlgorithmExploreFault, CostQuestion, algorithm_cost};
 use algorithms::InitializedAlgorithm;
 use cli::arguments::args::CostArgs;
-use command_parts::costs::{tell_costly_cycle, tell_costly_schedule};
+use command_parts::costs::{path_of_cost, tell_cost};
 use command_parts::{CommandFault, Ending, Meter, Screen, Work};
 use schedule::Sink;
 use std::alloc::Global;
@@ -28,46 +22,6 @@ fn question_of(args: &CostArgs) -> CostQuestion
         model: args.model,
         kind: args.kind,
     }
-}
-
-/// Writes a schedule that reaches the greatest cost, and what a passage costs on it.
-fn tell_cost<W: Sink>(
-    alloc: Global,
-    args: &CostArgs,
-    found: &CostlySchedule<AlgorithmMove>,
-    w: &mut W,
-) -> Result<Ending, CommandFault>
-    ensures prints { Prints 0 (spelling (schedule_by args.now.search found.now.schedule.items)
-        ++ cost_line_by args.now.kind found.now.process found.now.cost) (W.tape w.old) (W.tape w.new) result }
-    ensures ended { IfOk result (IsEnded false (W.tape w.old).failures (W.tape w.new).failures) }
-{
-    let schedule = schedule_of(alloc, &args.search, found.schedule.as_slice())?;
-    tell_costly_schedule(alloc, &schedule, args.kind, found.process, found.cost, w)
-}
-
-/// Writes a lasso: its stem and its cycle as a schedule, and of which process no cost is the greatest.
-fn tell_unbounded<W: Sink>(
-    alloc: Global,
-    args: &CostArgs,
-    lasso: &Lasso<AlgorithmMove>,
-    w: &mut W,
-) -> Result<Ending, CommandFault>
-    ensures prints { Prints 1 (spelling (schedule_by args.now.search (lasso.now.stem.items ++ lasso.now.cycle.items))
-        ++ unbounded_line_by args.now.kind lasso.now.process (length lasso.now.cycle.items)) (W.tape w.old) (W.tape w.new) result }
-    ensures ended { IfOk result (IsEnded false (W.tape w.old).failures (W.tape w.new).failures) }
-{
-    let mut path = Vec::from_slice(alloc, lasso.stem.as_slice())?;
-    let cycle = lasso.cycle.as_slice();
-    path.extend_from_slice(cycle)?;
-    let schedule = schedule_of(alloc, &args.search, &path)?;
-    tell_costly_cycle(
-        alloc,
-        &schedule,
-        args.kind,
-        lasso.process,
-        cycle.len() as u64,
-        w,
-    )
 }
 
 /// Writes the greatest cost of a passage of the algorithm with a schedule that reaches it, or a cycle by which there is none.
@@ -92,8 +46,11 @@ fn tell_costs<S: Screen, W: Sink>(
     );
     meter.end();
     match found {
-        Ok(PassageCost::Greatest(found)) => tell_cost(alloc, args, &found, w),
-        Ok(PassageCost::Unbounded(lasso)) => tell_unbounded(alloc, args, &lasso, w),
+        Ok(cost) => {
+            let path = path_of_cost(alloc, &cost)?;
+            let schedule = schedule_of(alloc, &args.search, &path)?;
+            tell_cost(alloc, &schedule, args.kind, &cost, w)
+        }
         Err(AlgorithmExploreFault::Refused(_)) => Err(CommandFault::BadSize),
         Err(AlgorithmExploreFault::TooManyStates) => Err(CommandFault::TooManyStates),
         Err(AlgorithmExploreFault::OutOfMemory) => Err(CommandFault::OutOfMemory),

@@ -12,7 +12,7 @@ use algorithm_explorer::{
 };
 use algorithms::InitializedAlgorithm;
 use cli::arguments::args::{AlgorithmExploreArgs, Cycles};
-use command_parts::findings::{tell_never_starving, tell_starves};
+use command_parts::findings::{path_of_lasso, tell_never_starving, tell_starves};
 use command_parts::options::is_any;
 use command_parts::{CommandFault, Ending, Meter, Screen, Work};
 use schedule::Sink;
@@ -29,10 +29,9 @@ fn tell_lasso<W: Sink>(
         ++ starves_line lasso.now.process (length lasso.now.cycle.items)) (W.tape w.old) (W.tape w.new) result }
     ensures ended { IfOk result (IsEnded false (W.tape w.old).failures (W.tape w.new).failures) }
 {
-    let mut path = Vec::from_slice(alloc, lasso.stem.as_slice())?;
-    let cycle = lasso.cycle.as_slice();
-    path.extend_from_slice(cycle)?;
+    let path = path_of_lasso(alloc, lasso)?;
     let schedule = schedule_of(alloc, args, &path)?;
+    let cycle = lasso.cycle.as_slice();
     tell_starves(alloc, &schedule, lasso.process, cycle.len() as u64, w)
 }
 

@@ -1,8 +1,8 @@
 -- The last line whose block is open.
 use Rattle.std.proofs.Common.{◌≡◌, ℕ, zero, suc, ◌+◌, ◌<◌, count_by, true, List, [], ◌∷◌, length, get_or, drop, Some, None, refl, sym, ap, ◌∙◌, subst, arith, eq-eqb}
 use Rattle.std.proofs.lemmas.List.{at_drop_more}
-use Rattle.algorithm_texts.specs.declared.fault_details.BlockLine.{BlockLine}
-use Rattle.algorithm_texts.specs.FaultDetails.{begins_block, ends_block, innermost_open, may_stay_open, stays_open}
+use Rattle.algorithm_texts.specs.declared.block_lines.BlockLine.{BlockLine}
+use Rattle.algorithm_texts.specs.BlockLines.{begins_block, ends_block, innermost_open, may_stay_open, stays_open}
 
 from_here : (lines : List BlockLine) (place : ℕ) → innermost_open (drop place lines) ≡ Some 0 → innermost_open lines ≡ Some place
 from_here lines zero h = h

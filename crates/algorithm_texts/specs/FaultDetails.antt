@@ -1,20 +1,21 @@
--- What more is said of a faulty line, where it has one of the commonest slips.
-use Rattle.std.specs.Prelude.{ℕ, ◌+◌, ◌-◌, ◌==◌, nat_lt, Bool, true, false, not, ◌&&◌, List, [], ◌∷◌, length, map, take, slice_get, slice_index, count_by, position, Option, Some, None, bytes_eq, option_map, option_and_then, Result, Err, if◌then◌else◌, codes}
+-- What more is said of a faulty line: which token is at fault, or which of the commonest slips it is.
+use Rattle.std.specs.Prelude.{ℕ, ◌+◌, ◌-◌, ◌==◌, nat_lt, Bool, true, false, not, ◌&&◌, List, length, map, take, slice_get, slice_index, position, Option, Some, None, option_map, option_and_then, Result, Err, if◌then◌else◌, codes}
 use Rattle.std.specs.List.{list_any, slice_split}
 use Rattle.std.specs.Option.{option_or}
 use Rattle.std.specs.Char.{is_ascii_digit}
 use Rattle.algorithms.specs.declared.fault.ReadFault.{ReadFault}
-use Rattle.algorithms.specs.declared.fault.ReadFault.TheVariants.{BadCharacter, BadForm, NameTaken, BadBlock, TooBig}
-use Rattle.algorithm_texts.specs.declared.fault_details.BlockLine.{BlockLine}
-use Rattle.algorithm_texts.specs.declared.fault_details.BlockLine.TheVariants.{BeginsIf, BeginsFor, IsElse, IsEnd, OfNoBlock}
+use Rattle.algorithms.specs.declared.fault.ReadFault.TheVariants.{BadCharacter, BadForm, NameTaken, UnknownName, TwoAccesses, NotAssignable, BadBlock, BadLabel, BadDeed, TooBig}
+use Rattle.algorithm_texts.specs.BlockLines.{block_line, innermost_open, open_block}
+use Rattle.algorithm_texts.specs.declared.block_lines.BlockLine.{BlockLine}
+use Rattle.algorithm_texts.specs.declared.block_lines.BlockLine.TheVariants.{BeginsFor, IsElse, IsEnd}
 use Rattle.algorithm_texts.specs.declared.fault_details.FaultDetail.{FaultDetail}
-use Rattle.algorithm_texts.specs.declared.fault_details.FaultDetail.TheVariants.{Tab, CarriageReturn, Unprintable, NoToken, LeadingZero, LargeNumber, LongName, LongLine, NoThen, WrongIndexes, ReservedWord, NoEnd, NoBlock, NoIf}
+use Rattle.algorithm_texts.specs.declared.fault_details.FaultDetail.TheVariants.{Tab, CarriageReturn, Unprintable, NoToken, LeadingZero, LargeNumber, LongName, LongLine, NoThen, WrongIndexes, ReservedWord, EqualSign, UnfitDeed, AtColumn, NoEnd, NoBlock, NoIf}
 use Rattle.algorithm_texts.specs.declared.index_counts.IndexCount.{IndexCount}
 use Rattle.algorithm_texts.specs.declared.tokens.Token.{Token}
-use Rattle.algorithm_texts.specs.Grammar.{is_among}
 use Rattle.algorithm_texts.specs.IndexCounts.{first_miscount}
-use Rattle.algorithm_texts.specs.Operands.{reserved}
-use Rattle.algorithm_texts.specs.TokenPlaces.{token_places, read_at, word_at, is_word_at, is_word_of, column_of}
+use Rattle.algorithm_texts.specs.NamePlaces.{name_place, label_place, deed_place, equal_place, is_reserved_at}
+use Rattle.algorithm_texts.specs.NameUses.{second_access, unknown_place}
+use Rattle.algorithm_texts.specs.TokenPlaces.{token_places, read_at, is_word_at, is_word_of, column_of}
 use Rattle.algorithm_texts.specs.Tokens.{is_printable, before_comment}
 
 -- ---- characters, and tokens that are none
@@ -51,73 +52,24 @@ abbrev pub no_then_detail : List ℕ → List ℕ → Option FaultDetail
 no_then_detail code places =
     if is_word_of (codes "if") code (slice_get places 0) && not (list_any (is_word_at (codes "then") code) places) then Some NoThen else None
 
--- the words that a name comes after
-abbrev pub words_before_names : List (List ℕ)
-words_before_names = codes "shared" ∷ codes "private" ∷ codes "constant" ∷ codes "for" ∷ codes "goto" ∷ codes "await" ∷ []
+-- a token, of which the fault says all
+abbrev pub at_column : List ℕ → Option ℕ → Option FaultDetail
+at_column code place = option_map (λ place. AtColumn (column_of code place)) place
 
-abbrev pub named_second : List ℕ → Option ℕ → Bool
-named_second code first = list_any (λ word. is_word_of word code first) words_before_names
+-- a name that is taken, at this place
+abbrev pub taken_detail_at : List ℕ → ℕ → FaultDetail
+taken_detail_at code place = if is_reserved_at code place then ReservedWord (column_of code place) else AtColumn (column_of code place)
 
--- the place of the name that a line declares or sets. That of an `if` comes later
-abbrev pub name_place : List ℕ → List ℕ → Option ℕ
-name_place code places = if named_second code (slice_get places 0) then slice_get places 1 else slice_get places 0
+abbrev pub taken_detail : List ℕ → List ℕ → Option FaultDetail
+taken_detail code places = option_map (taken_detail_at code) (name_place code places)
 
--- a word of the format, but for the `if` that begins a line
-abbrev pub is_reserved_name : Option (List ℕ) → Bool
-is_reserved_name None = false
-is_reserved_name (Some word) = is_among reserved word && not (bytes_eq word (codes "if"))
+abbrev pub deed_detail : List ℕ → List ℕ → Option FaultDetail
+deed_detail code places = option_map (λ place. UnfitDeed (column_of code place)) (deed_place code places)
 
-abbrev pub reserved_detail_at : List ℕ → ℕ → Option FaultDetail
-reserved_detail_at code place = if is_reserved_name (word_at code place) then Some (ReservedWord (column_of code place)) else None
-
--- a word of the format as a name
-abbrev pub reserved_detail : List ℕ → List ℕ → Option FaultDetail
-reserved_detail code places = option_and_then (reserved_detail_at code) (name_place code places)
+abbrev pub equal_detail : List ℕ → List ℕ → Option FaultDetail
+equal_detail code places = option_map (λ place. EqualSign (column_of code place)) (equal_place code places)
 
 -- ---- blocks
-
--- what the line with tokens at these places does to blocks
-abbrev pub block_line_at : List ℕ → List ℕ → BlockLine
-block_line_at code places =
-    if is_word_of (codes "for") code (slice_get places 0) then BeginsFor
-    else if is_word_of (codes "else") code (slice_get places 0) then IsElse
-    else if is_word_of (codes "end") code (slice_get places 0) then IsEnd
-    else if is_word_of (codes "if") code (slice_get places 0) && is_word_of (codes "then") code (slice_get places (length places - 1)) then BeginsIf
-    else OfNoBlock
-
-abbrev pub block_line : List ℕ → BlockLine
-block_line line = block_line_at (before_comment line) (token_places (before_comment line))
-
-abbrev pub begins_block : BlockLine → Bool
-begins_block BeginsIf = true
-begins_block BeginsFor = true
-begins_block IsElse = false
-begins_block IsEnd = false
-begins_block OfNoBlock = false
-
-abbrev pub ends_block : BlockLine → Bool
-ends_block BeginsIf = false
-ends_block BeginsFor = false
-ends_block IsElse = false
-ends_block IsEnd = true
-ends_block OfNoBlock = false
-
--- an `end` is wanted for the block of this line
-abbrev pub may_stay_open : BlockLine → Bool
-may_stay_open BeginsIf = true
-may_stay_open BeginsFor = true
-may_stay_open IsElse = true
-may_stay_open IsEnd = false
-may_stay_open OfNoBlock = false
-
--- after this line as many blocks begin as end
-abbrev pub stays_open : BlockLine → List BlockLine → Bool
-stays_open line lines = may_stay_open line && count_by begins_block lines == count_by ends_block lines
-
--- the place of the last line whose block is open at the end
-abbrev pub innermost_open : List BlockLine → Option ℕ
-innermost_open [] = None
-innermost_open (line ∷ lines) = option_or (option_map (λ place. place + 1) (innermost_open lines)) (if stays_open line lines then Some 0 else None)
 
 -- of a line after which lines it ends a block or is an `else`, within this block
 abbrev pub own_detail : BlockLine → Option BlockLine → Option FaultDetail
@@ -126,10 +78,6 @@ own_detail IsElse None = Some NoIf
 own_detail IsElse (Some BeginsFor) = Some NoIf
 own_detail IsElse (Some IsElse) = Some NoIf
 own_detail line block = None
-
--- the block in which the next line stands
-abbrev pub open_block : List BlockLine → Option BlockLine
-open_block lines = option_and_then (slice_get lines) (innermost_open lines)
 
 -- of the last of these lines, by the block in which it stands
 abbrev pub last_line_detail : List BlockLine → Option FaultDetail
@@ -149,14 +97,29 @@ index_detail lines code places =
 
 abbrev pub form_detail : List (List ℕ) → List ℕ → List ℕ → Option FaultDetail
 form_detail lines code places =
-    option_or (last_token_detail code places) (option_or (no_then_detail code places) (index_detail lines code places))
+    option_or (last_token_detail code places)
+    (option_or (no_then_detail code places) (option_or (index_detail lines code places) (equal_detail code places)))
 
-abbrev pub token_details : ReadFault → List (List ℕ) → List ℕ → List ℕ → Option FaultDetail
-token_details BadCharacter lines code places = last_token_detail code places
-token_details BadForm lines code places = form_detail lines code places
-token_details TooBig lines code places = last_token_detail code places
-token_details NameTaken lines code places = reserved_detail code places
-token_details other lines code places = None
+-- a shared word that is not the line's access
+abbrev pub access_detail : List (List ℕ) → List ℕ → List ℕ → Option FaultDetail
+access_detail lines code places = at_column code (second_access lines code None None places)
+
+-- a name that is not known
+abbrev pub unknown_detail : List (List ℕ) → List (List ℕ) → List ℕ → List ℕ → Option FaultDetail
+unknown_detail first lines code places = at_column code (unknown_place first lines code places)
+
+-- of the last of the first lines of a text
+abbrev pub token_details : ReadFault → List (List ℕ) → List (List ℕ) → List ℕ → List ℕ → Option FaultDetail
+token_details BadCharacter first lines code places = last_token_detail code places
+token_details BadForm first lines code places = form_detail first code places
+token_details TooBig first lines code places = last_token_detail code places
+token_details NameTaken first lines code places = taken_detail code places
+token_details UnknownName first lines code places = unknown_detail first lines code places
+token_details TwoAccesses first lines code places = access_detail first code places
+token_details NotAssignable first lines code places = at_column code (name_place code places)
+token_details BadLabel first lines code places = at_column code (label_place code places)
+token_details BadDeed first lines code places = deed_detail code places
+token_details other first lines code places = None
 
 -- what bytes say before the tokens do
 abbrev pub bytes_detail : ReadFault → List ℕ → Option FaultDetail
@@ -164,25 +127,24 @@ bytes_detail BadCharacter line = unprintable_detail line
 bytes_detail TooBig line = if nat_lt 1000 (length line) then Some LongLine else None
 bytes_detail other line = None
 
--- of a line, which may come after others
-abbrev pub line_detail : ReadFault → List (List ℕ) → List ℕ → Option FaultDetail
-line_detail fault lines line =
-    option_or (bytes_detail fault line) (token_details fault lines (before_comment line) (token_places (before_comment line)))
+-- of a line, which is the last of the first lines of a text
+abbrev pub line_detail : ReadFault → List (List ℕ) → List (List ℕ) → List ℕ → Option FaultDetail
+line_detail fault first lines line =
+    option_or (bytes_detail fault line) (token_details fault first lines (before_comment line) (token_places (before_comment line)))
 
--- the lines of a text up to the one of this number
-abbrev pub lines_up_to : ℕ → List ℕ → List (List ℕ)
-lines_up_to number text = take number (slice_split (λ byte. byte == 10) text)
+abbrev pub lines_of : List ℕ → List (List ℕ)
+lines_of text = slice_split (λ byte. byte == 10) text
 
 abbrev pub is_of_blocks : ReadFault → Bool
 is_of_blocks BadBlock = true
 is_of_blocks other = false
 
--- of the last of these lines; of blocks all lines decide
-abbrev pub detail_in : ReadFault → List (List ℕ) → Option FaultDetail
-detail_in fault lines =
-    if is_of_blocks fault then block_detail (map block_line lines)
-    else option_and_then (line_detail fault lines) (slice_get lines (length lines - 1))
+-- of the last of the first lines of a text; of blocks all the first ones decide
+abbrev pub detail_in : ReadFault → List (List ℕ) → List (List ℕ) → Option FaultDetail
+detail_in fault first lines =
+    if is_of_blocks fault then block_detail (map block_line first)
+    else option_and_then (line_detail fault first lines) (slice_get first (length first - 1))
 
 -- what more is said of this fault of the line of this number
 abbrev pub fault_detail : List ℕ → ℕ → ReadFault → Option FaultDetail
-fault_detail text number fault = detail_in fault (lines_up_to number text)
+fault_detail text number fault = detail_in fault (take number (lines_of text)) (lines_of text)

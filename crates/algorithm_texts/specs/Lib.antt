@@ -26,6 +26,9 @@ pub mod Sayings
 pub mod TextFaults
 pub mod TokenPlaces
 pub mod IndexCounts
+pub mod NamePlaces
+pub mod NameUses
+pub mod BlockLines
 pub mod FaultDetails
 pub mod PartFaults
 pub mod LineFaults

@@ -1,6 +1,6 @@
 -- Reading `never CONDITION`. A condition may name shared words, and places and phases of processes. Each of these is a fact, which stands
 -- in the condition as a name of its own after those of the processes: a shared word in the place of its value, and `p is PHASE` and
--- `p at LABEL` as `NAME = 1`. Facts are read from the last token back, so that the index of a word has no word in it that is not read.
+-- `p at LABEL` as `(NAME = 1)`. Facts are read from the last token back, so that the index of a word has no word in it that is not read.
 use Rattle.std.specs.Prelude.{◌≡◌, ℕ, ◌+◌, ◌/◌, ◌%◌, ◌==◌, nat_lt, Bool, true, false, not, ◌||◌, List, [], ◌∷◌, ◌++◌, length, map, drop, slice_get, Option, Some, None, is_some, Result, Ok, Err, if◌then◌else◌, codes, bytes_eq, position}
 use Rattle.std.specs.List.{list_any}
 use Rattle.algorithms.specs.declared.condition.Comparison.TheVariants.{Equal}
@@ -10,7 +10,7 @@ use Rattle.algorithms.specs.declared.never_claim.ClaimedPhase.TheVariants.{Out, 
 use Rattle.algorithm_texts.specs.declared.claims.ClaimReading.{ClaimReading}
 use Rattle.algorithm_texts.specs.declared.lines.ClaimLabel.{ClaimLabel}
 use Rattle.algorithm_texts.specs.declared.lines.Label.{Label}
-use Rattle.algorithm_texts.specs.declared.tokens.Sign.TheVariants.{Colon, Comma, Comparison}
+use Rattle.algorithm_texts.specs.declared.tokens.Sign.TheVariants.{Close, Colon, Comma, Comparison, Open}
 use Rattle.algorithm_texts.specs.declared.tokens.Token.{Token}
 use Rattle.algorithm_texts.specs.declared.tokens.Token.TheVariants.{Number, Word, Sign}
 use Rattle.algorithm_texts.specs.Parts.{Formula, ◌>>=◌}
@@ -78,9 +78,14 @@ with_fact fact tokens r =
     })
     else None
 
--- the fact is so, before these tokens
-abbrev pub is_one : List Token → List Token
-is_one tokens = Sign (Comparison Equal) ∷ (Number 1 ∷ tokens)
+abbrev pub with_token : Token → FactsRead → FactsRead
+with_token token r = record r { tokens = token ∷ r.tokens }
+
+-- a fact that is so, before these tokens. It stands in brackets, so that nothing beside it is read with it
+abbrev pub with_test : FactForm → List Token → FactsRead → Option FactsRead
+with_test fact tokens r = do
+  now ← with_fact fact (Sign (Comparison Equal) ∷ (Number 1 ∷ (Sign Close ∷ tokens))) r
+  Some (with_token (Sign Open) now)
 
 abbrev pub begins_shared_word : List (List ℕ) → Option Token → Bool
 begins_shared_word declared None = false
@@ -120,7 +125,7 @@ abbrev pub read_phase_fact : FactsRead → Option FactsRead
 read_phase_fact r = do
   name ← first_name r
   phase ← named_by phase_words (slice_get r.tokens 2)
-  with_fact (OfPhase name phase) (is_one (drop 3 r.tokens)) r
+  with_test (OfPhase name phase) (drop 3 r.tokens) r
 
 abbrev pub with_label : ℕ → List ℕ → FactsRead → FactsRead
 with_label number name r = record r { labels = r.labels ++ record { name = name; number = number } ∷ [] }
@@ -130,7 +135,7 @@ abbrev pub read_place_fact : ℕ → FactsRead → Option FactsRead
 read_place_fact number r = do
   name ← first_name r
   label ← new_name (slice_get r.tokens 2)
-  with_fact (OfPlace name (length r.labels)) (is_one (drop 3 r.tokens)) (with_label number label r)
+  with_test (OfPlace name (length r.labels)) (drop 3 r.tokens) (with_label number label r)
 
 -- A test begins with a name. Before a sign, such as the end of an index, and before a number none is read
 abbrev pub read_test_fact : ℕ → FactsRead → Option FactsRead
@@ -139,9 +144,6 @@ read_test_fact number r =
     else if is_the_word (slice_get r.tokens 1) (codes "is") then read_phase_fact r
     else if is_the_word (slice_get r.tokens 1) (codes "at") then read_place_fact number r
     else Some r
-
-abbrev pub with_token : Token → FactsRead → FactsRead
-with_token token r = record r { tokens = token ∷ r.tokens }
 
 -- after `is` and `at` stands the name of a phase or of a label
 abbrev pub begins_test : Token → Bool

@@ -1,5 +1,5 @@
 -- The places of a line's tokens.
-use Rattle.std.specs.Prelude.{◌≡◌, ℕ, zero, suc, ◌+◌, ◌-◌, ◌==◌, min, Bool, false, List, [], ◌∷◌, ◌++◌, length, map, drop, Option, Some, None, Result, Ok, Err, if◌then◌else◌, codes}
+use Rattle.std.specs.Prelude.{◌≡◌, ℕ, zero, suc, ◌+◌, ◌-◌, ◌==◌, min, Bool, false, List, [], ◌∷◌, ◌++◌, length, map, drop, position, Option, Some, None, Result, Ok, Err, if◌then◌else◌, codes}
 use Rattle.algorithms.specs.declared.fault.ReadFault.{ReadFault}
 use Rattle.algorithm_texts.specs.declared.tokens.Sign.{Sign}
 use Rattle.algorithm_texts.specs.declared.tokens.Token.{Token}
@@ -65,6 +65,15 @@ is_sign_at sign code place = is_this_sign sign (read_at code place)
 abbrev pub is_sign_of : Sign → List ℕ → Option ℕ → Bool
 is_sign_of sign code None = false
 is_sign_of sign code (Some place) = is_sign_at sign code place
+
+-- the tokens after the one of this number
+abbrev pub after_one : List ℕ → Option ℕ → List ℕ
+after_one places None = []
+after_one places (Some at) = drop (at + 1) places
+
+-- the tokens after the first one that is this word
+abbrev pub places_after : List ℕ → List ℕ → List ℕ → List ℕ
+places_after word code places = after_one places (position (is_word_at word code) places)
 
 -- a place in a line as a column, which counts from 1
 abbrev pub column_of : List ℕ → ℕ → ℕ

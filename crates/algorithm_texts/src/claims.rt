@@ -9,7 +9,7 @@ ghost use Rattle.algorithm_texts.specs.Operands.{RefusesAs, names_of};
 ghost use Rattle.algorithm_texts.specs.Drafts.{draft_view, fact_form};
 ghost use Rattle.algorithm_texts.specs.LineDrafts.{Drafts, scope_in, with_names};
 ghost use Rattle.algorithm_texts.specs.LineFaults.{claim_fault, claimed_condition_fault, fact_fault, facts_fault, first_name_fault, named_processes_fault, never_fault, phase_fact_fault, place_fact_fault, second_process_fault, test_fact_fault, undeclared_name_fault, word_fact_fault};
-ghost use Rattle.algorithm_texts.specs.NeverClaims.{FactsRead, MakesFacts, begins_shared_word, begins_test, fact_letters, facts_of, first_name, is_one, phase_words, read_claim, read_claimed_condition, read_fact, read_facts, read_named_processes, read_never, read_phase_fact, read_place_fact, read_processes, read_second_process, read_test_fact, read_value_fact, read_word_fact, with_fact, with_facts_read};
+ghost use Rattle.algorithm_texts.specs.NeverClaims.{FactsRead, MakesFacts, begins_shared_word, begins_test, fact_letters, facts_of, first_name, phase_words, read_claim, read_claimed_condition, read_fact, read_facts, read_named_processes, read_never, read_phase_fact, read_place_fact, read_processes, read_second_process, read_test_fact, read_value_fact, read_word_fact, with_fact, with_facts_read, with_test};
 ghost use Rattle.algorithm_texts.specs.NewNames.{undeclared_name};
 ghost use Rattle.algorithm_texts.specs.Tokens.{value_of_name};
 
@@ -209,7 +209,7 @@ impl Draft {
         Ok(())
     }
 
-    /// Adds a fact that is so, before these tokens.
+    /// Adds a fact that is so, before these tokens. It stands in brackets, so that nothing beside it is read with it.
     fn add_test(
         &mut self,
         alloc: Global,
@@ -218,15 +218,18 @@ impl Draft {
         read: &mut ClaimReading,
     ) -> Result<(), ReadFault>
         ensures facts { MakesFacts (facts_of read.new (draft_view self.new)) result
-            (with_fact (fact_form fact) (is_one tokens.now) (facts_of read.old (draft_view self.old))) ReadFault.TooBig }
+            (with_test (fact_form fact) tokens.now (facts_of read.old (draft_view self.old))) ReadFault.TooBig }
         ensures kept { draft_view self.new ≡ with_facts_read (facts_of read.new (draft_view self.new)) (draft_view self.old) }
     {
         let one = [
             Token::Sign(Sign::Comparison(Comparison::Equal)),
             Token::Number(1),
+            Token::Sign(Sign::Close),
         ];
         let all = joined_tokens(alloc, &one, tokens)?;
-        self.add_fact(alloc, fact, all.as_slice(), read)
+        self.add_fact(alloc, fact, all.as_slice(), read)?;
+        read.tokens = joined_tokens(alloc, &[Token::Sign(Sign::Open)], read.tokens.as_slice())?;
+        Ok(())
     }
 
     /// Reads a shared word that stands first, with its index.

@@ -1,15 +1,16 @@
-//! What more is said of a faulty line, where it has one of the commonest slips.
+//! What more is said of a faulty line: which token is at fault, or which of the commonest slips it is.
 
-ghost use Rattle.std.specs.Prelude.{◌≡◌, ◌+◌, ◌<◌, ◌^◌, true, not, if◌then◌else◌, length, map, position, slice_index, IfOk, IfSome};
+ghost use Rattle.std.specs.Prelude.{◌≡◌, not, map, take, position, slice_index, IfOk};
 ghost use Rattle.std.specs.Char.{is_ascii_digit};
-ghost use Rattle.std.specs.Option.{option_copied};
 ghost use Rattle.algorithm_texts.specs.Tokens.{is_printable};
-ghost use Rattle.algorithm_texts.specs.FaultDetails.{byte_detail, unprintable_detail, large_token, detail_at, last_token_detail, no_then_detail, named_second, name_place, is_reserved_name, reserved_detail_at, reserved_detail, block_line_at, block_line, begins_block, ends_block, may_stay_open, innermost_open, own_detail, open_block, last_line_detail, block_detail, bytes_detail, index_detail, form_detail, token_details, line_detail, lines_up_to, is_of_blocks, detail_in, fault_detail};
+ghost use Rattle.algorithm_texts.specs.FaultDetails.{byte_detail, unprintable_detail, large_token, detail_at, last_token_detail, no_then_detail, at_column, taken_detail_at, taken_detail, deed_detail, equal_detail, own_detail, last_line_detail, block_detail, bytes_detail, index_detail, form_detail, access_detail, unknown_detail, token_details, line_detail, lines_of, is_of_blocks, detail_in, fault_detail};
 
+use crate::block_lines::{BlockLine, block_lines, innermost_open, open_block};
 use crate::index_counts::first_miscount;
-use crate::names::is_reserved;
-use crate::token_places::{column_of, has_word, is_word_of, read_at, token_places, word_at};
-use crate::tokens::{LineWord, before_comment, spells};
+use crate::name_places::{deed_place, equal_place, is_reserved_at, label_place, name_place};
+use crate::name_uses::{second_access, unknown_place};
+use crate::token_places::{column_of, has_word, is_word_of, read_at, token_places};
+use crate::tokens::before_comment;
 use algorithms::fault::ReadFault;
 use std::alloc::{AllocError, Global};
 
@@ -56,6 +57,18 @@ pub enum FaultDetail {
     ReservedWord {
         column: u64,
     },
+    /// A `=` where `:=` is meant.
+    EqualSign {
+        column: u64,
+    },
+    /// The deed of a line.
+    UnfitDeed {
+        column: u64,
+    },
+    /// Another token, of which the fault says all.
+    AtColumn {
+        column: u64,
+    },
     /// The block of this line has no `end`: an `if`, an `else` or a `for`.
     NoEnd {
         line: u64,
@@ -64,16 +77,6 @@ pub enum FaultDetail {
     NoBlock,
     /// An `else` that is not in an `if`.
     NoIf,
-}
-
-/// What a line does to blocks.
-#[derive(Clone, Copy, PartialEq, Eq)]
-enum BlockLine {
-    BeginsIf,
-    BeginsFor,
-    IsElse,
-    IsEnd,
-    OfNoBlock,
 }
 
 // ---- characters, and tokens that are none
@@ -153,156 +156,65 @@ fn no_then_detail(code: &[u8], places: &[usize]) -> Option<FaultDetail>
     }
 }
 
-/// Whether a line with this first token has its name after it.
-fn is_named_second(code: &[u8], first: Option<&usize>) -> bool
-    ensures { result ≡ named_second code.now (option_copied first.entry) }
+/// What is said of a token as the fault says it.
+fn at_column(code: &[u8], place: Option<usize>) -> Option<FaultDetail>
+    ensures { result ≡ at_column code.now place }
 {
-    is_word_of(b"shared", code, first)
-        || is_word_of(b"private", code, first)
-        || is_word_of(b"constant", code, first)
-        || is_word_of(b"for", code, first)
-        || is_word_of(b"goto", code, first)
-        || is_word_of(b"await", code, first)
-}
-
-/// The place of the name that a line declares or sets.
-fn name_place(code: &[u8], places: &[usize]) -> Option<usize>
-    ensures { result ≡ name_place code.now places.now }
-{
-    if is_named_second(code, places.first()) {
-        places.get(1).copied()
-    } else {
-        places.first().copied()
-    }
-}
-
-/// Whether there is a word, and it is one of the format, but not `if`.
-fn is_reserved_name(word: Option<LineWord>) -> bool
-    ensures { result ≡ is_reserved_name word }
-{
-    match word {
-        Some(word) => is_reserved(word.as_bytes()) && !spells(word.as_bytes(), b"if"),
-        None => false,
-    }
-}
-
-/// What is said of the token at a place, where it is a word of the format.
-fn reserved_detail_at(code: &[u8], place: usize) -> Option<FaultDetail>
-    ensures { result ≡ reserved_detail_at code.now place }
-{
-    if is_reserved_name(word_at(code, place)) {
-        Some(FaultDetail::ReservedWord {
+    match place {
+        Some(place) => Some(FaultDetail::AtColumn {
             column: column_of(code, place),
-        })
-    } else {
-        None
+        }),
+        None => None,
     }
 }
 
-/// What is said of a name that is a word of the format.
-fn reserved_detail(code: &[u8], places: &[usize]) -> Option<FaultDetail>
-    ensures { result ≡ reserved_detail code.now places.now }
+/// What is said of the name at a place that is taken.
+fn taken_detail_at(code: &[u8], place: usize) -> FaultDetail
+    ensures { result ≡ taken_detail_at code.now place }
+{
+    let column = column_of(code, place);
+    if is_reserved_at(code, place) {
+        FaultDetail::ReservedWord { column }
+    } else {
+        FaultDetail::AtColumn { column }
+    }
+}
+
+/// What is said of a name that is taken.
+fn taken_detail(code: &[u8], places: &[usize]) -> Option<FaultDetail>
+    ensures { result ≡ taken_detail code.now places.now }
 {
     match name_place(code, places) {
-        Some(place) => reserved_detail_at(code, place),
+        Some(place) => Some(taken_detail_at(code, place)),
+        None => None,
+    }
+}
+
+/// What is said of a deed.
+fn deed_detail(code: &[u8], places: &[usize]) -> Option<FaultDetail>
+    ensures { result ≡ deed_detail code.now places.now }
+{
+    match deed_place(code, places) {
+        Some(place) => Some(FaultDetail::UnfitDeed {
+            column: column_of(code, place),
+        }),
+        None => None,
+    }
+}
+
+/// What is said of a `=` by which a name is set.
+fn equal_detail(code: &[u8], places: &[usize]) -> Option<FaultDetail>
+    ensures { result ≡ equal_detail code.now places.now }
+{
+    match equal_place(code, places) {
+        Some(place) => Some(FaultDetail::EqualSign {
+            column: column_of(code, place),
+        }),
         None => None,
     }
 }
 
 // ---- blocks
-
-/// What the line with tokens at these places does to blocks.
-fn block_line_at(code: &[u8], places: &[usize]) -> BlockLine
-    ensures { result ≡ block_line_at code.now places.now }
-{
-    let first = places.first();
-    if is_word_of(b"for", code, first) {
-        BlockLine::BeginsFor
-    } else if is_word_of(b"else", code, first) {
-        BlockLine::IsElse
-    } else if is_word_of(b"end", code, first) {
-        BlockLine::IsEnd
-    } else if is_word_of(b"if", code, first) && is_word_of(b"then", code, places.last()) {
-        BlockLine::BeginsIf
-    } else {
-        BlockLine::OfNoBlock
-    }
-}
-
-/// What a line does to blocks.
-fn block_line(alloc: Global, line: &[u8]) -> Result<BlockLine, AllocError>
-    ensures { IfOk result (λ found. found ≡ block_line line.now) }
-{
-    let code = before_comment(line);
-    let places = token_places(alloc, code)?;
-    Ok(block_line_at(code, &places))
-}
-
-/// What lines do to blocks.
-fn block_lines(alloc: Global, lines: &[&[u8]]) -> Result<Vec<BlockLine>, AllocError>
-    ensures { IfOk result (λ found. found.items ≡ map (λ line. block_line line.now) lines.now) }
-{
-    let mut found = Vec::new(alloc);
-    for line in lines {
-        found.push(block_line(alloc, line)?)?;
-    }
-    Ok(found)
-}
-
-/// Whether a line begins a block that an `end` ends.
-fn begins_block(line: BlockLine) -> bool
-    ensures { result ≡ begins_block line }
-{
-    matches!(line, BlockLine::BeginsIf | BlockLine::BeginsFor)
-}
-
-/// Whether the block of a line may be open at the end.
-fn may_stay_open(line: BlockLine) -> bool
-    ensures { result ≡ may_stay_open line }
-{
-    begins_block(line) || line == BlockLine::IsElse
-}
-
-/// How many more blocks end than begin from this line on, where after it that many more do.
-fn more_ended(line: BlockLine, ended: usize) -> usize
-    requires some { begins_block line ≡ true → 0 < ended }
-    requires few { ended + 1 < 2 ^ 64 }
-    ensures { result + (if begins_block line then 1 else 0) ≡ ended + (if ends_block line then 1 else 0) }
-{
-    match line {
-        BlockLine::BeginsIf | BlockLine::BeginsFor => ended - 1,
-        BlockLine::IsEnd => ended + 1,
-        BlockLine::IsElse | BlockLine::OfNoBlock => ended,
-    }
-}
-
-/// The place of the last line whose block is open at the end.
-fn innermost_open(lines: &[BlockLine]) -> Option<usize>
-    ensures place { result ≡ innermost_open lines.now }
-    ensures within { IfSome result (λ place. place < length lines.now) }
-{
-    let mut ended: usize = 0;
-    let mut place = lines.len();
-    while place > 0 {
-        place -= 1;
-        let line = lines[place];
-        if ended == 0 && may_stay_open(line) {
-            return Some(place);
-        }
-        ended = more_ended(line, ended);
-    }
-    None
-}
-
-/// The block in which the line after these stands.
-fn open_block(lines: &[BlockLine]) -> Option<BlockLine>
-    ensures { result ≡ open_block lines.now }
-{
-    match innermost_open(lines) {
-        Some(place) => lines.get(place).copied(),
-        None => None,
-    }
-}
 
 /// What is said of a line that ends no block, or is an `else`, within this block.
 fn own_detail(line: BlockLine, block: Option<BlockLine>) -> Option<FaultDetail>
@@ -374,7 +286,7 @@ fn index_detail(
     }
 }
 
-/// What is said of a number with a leading zero, else of an `if` without `then`, else of indexes.
+/// What is said of a number with a leading zero, else of an `if` without `then`, else of indexes, else of a `=` for `:=`.
 fn form_detail(
     alloc: Global,
     lines: &[&[u8]],
@@ -389,51 +301,100 @@ fn form_detail(
     if let Some(detail) = no_then_detail(code, places) {
         return Ok(Some(detail));
     }
-    index_detail(alloc, lines, code, places)
+    match index_detail(alloc, lines, code, places)? {
+        Some(detail) => Ok(Some(detail)),
+        None => Ok(equal_detail(code, places)),
+    }
 }
 
-/// What the tokens of a line say.
-fn token_details(
+/// What is said of a word that these lines declare, where it is not the line's access.
+fn access_detail(
     alloc: Global,
-    fault: ReadFault,
     lines: &[&[u8]],
     code: &[u8],
     places: &[usize],
 ) -> Result<Option<FaultDetail>, AllocError>
-    ensures { IfOk result (λ detail. detail ≡ token_details fault (map (λ line. line.now) lines.now) code.now places.now) }
+    ensures { IfOk result (λ detail. detail ≡ access_detail (map (λ line. line.now) lines.now) code.now places.now) }
+{
+    let place = second_access(alloc, lines, code, places)?;
+    Ok(at_column(code, place))
+}
+
+/// What is said of a name that is not known.
+fn unknown_detail(
+    alloc: Global,
+    first: &[&[u8]],
+    lines: &[&[u8]],
+    code: &[u8],
+    places: &[usize],
+) -> Result<Option<FaultDetail>, AllocError>
+    ensures { IfOk result (λ detail. detail
+        ≡ unknown_detail (map (λ line. line.now) first.now) (map (λ line. line.now) lines.now) code.now places.now) }
+{
+    let place = unknown_place(alloc, first, lines, code, places)?;
+    Ok(at_column(code, place))
+}
+
+/// What the tokens of a line say, which is the last of the first lines of a text.
+fn token_details(
+    alloc: Global,
+    fault: ReadFault,
+    first: &[&[u8]],
+    lines: &[&[u8]],
+    code: &[u8],
+    places: &[usize],
+) -> Result<Option<FaultDetail>, AllocError>
+    ensures { IfOk result (λ detail. detail
+        ≡ token_details fault (map (λ line. line.now) first.now) (map (λ line. line.now) lines.now) code.now places.now) }
 {
     match fault {
         ReadFault::BadCharacter | ReadFault::TooBig => Ok(last_token_detail(code, places)),
-        ReadFault::BadForm => form_detail(alloc, lines, code, places),
-        ReadFault::NameTaken => Ok(reserved_detail(code, places)),
+        ReadFault::BadForm => form_detail(alloc, first, code, places),
+        ReadFault::NameTaken => Ok(taken_detail(code, places)),
+        ReadFault::UnknownName => unknown_detail(alloc, first, lines, code, places),
+        ReadFault::TwoAccesses => access_detail(alloc, first, code, places),
+        ReadFault::NotAssignable => Ok(at_column(code, name_place(code, places))),
+        ReadFault::BadLabel => Ok(at_column(code, label_place(code, places))),
+        ReadFault::BadDeed => Ok(deed_detail(code, places)),
         _ => Ok(None),
     }
 }
 
-/// What a line says, which may come after others.
+/// What a line says, which is the last of the first lines of a text.
 fn line_detail(
     alloc: Global,
     fault: ReadFault,
+    first: &[&[u8]],
     lines: &[&[u8]],
     line: &[u8],
 ) -> Result<Option<FaultDetail>, AllocError>
-    ensures { IfOk result (λ detail. detail ≡ line_detail fault (map (λ line. line.now) lines.now) line.now) }
+    ensures { IfOk result (λ detail. detail
+        ≡ line_detail fault (map (λ line. line.now) first.now) (map (λ line. line.now) lines.now) line.now) }
 {
     if let Some(detail) = bytes_detail(fault, line) {
         return Ok(Some(detail));
     }
     let code = before_comment(line);
     let places = token_places(alloc, code)?;
-    token_details(alloc, fault, lines, code, &places)
+    token_details(alloc, fault, first, lines, code, &places)
 }
 
-/// The lines of a text up to the one of this number.
-fn lines_up_to(alloc: Global, number: u64, text: &[u8]) -> Result<Vec<&[u8]>, AllocError>
-    ensures { IfOk result (λ lines. map (λ line. line.now) lines.items ≡ lines_up_to number text.now) }
+/// The lines of a text.
+fn lines_of(alloc: Global, text: &[u8]) -> Result<Vec<&[u8]>, AllocError>
+    ensures { IfOk result (λ lines. map (λ line. line.now) lines.items ≡ lines_of text.now) }
 {
-    text.split(|byte| *byte == b'\n')
-        .take(number as usize)
-        .collect(alloc)
+    text.split(|byte| *byte == b'\n').collect(alloc)
+}
+
+/// The lines up to the one of this number.
+fn lines_up_to<'s, 't>(number: u64, lines: &'s [&'t [u8]]) -> &'s [&'t [u8]]
+    ensures { result.now ≡ take number lines.now }
+{
+    if number < lines.len() as u64 {
+        &lines[..number as usize]
+    } else {
+        lines
+    }
 }
 
 /// Whether a fault is one of blocks.
@@ -443,26 +404,28 @@ fn is_of_blocks(fault: ReadFault) -> bool
     matches!(fault, ReadFault::BadBlock)
 }
 
-/// What the last of these lines says, or of a fault of blocks what all of them say.
+/// What the last of the first lines of a text says, or of a fault of blocks what all the first ones say.
 fn detail_in(
     alloc: Global,
     fault: ReadFault,
+    first: &[&[u8]],
     lines: &[&[u8]],
 ) -> Result<Option<FaultDetail>, AllocError>
-    ensures { IfOk result (λ detail. detail ≡ detail_in fault (map (λ line. line.now) lines.now)) }
+    ensures { IfOk result (λ detail. detail
+        ≡ detail_in fault (map (λ line. line.now) first.now) (map (λ line. line.now) lines.now)) }
 {
     if is_of_blocks(fault) {
-        let found = block_lines(alloc, lines)?;
+        let found = block_lines(alloc, first)?;
         return Ok(block_detail(&found));
     }
-    match lines.last() {
-        Some(line) => line_detail(alloc, fault, lines, line),
+    match first.last() {
+        Some(line) => line_detail(alloc, fault, first, lines, line),
         None => Ok(None),
     }
 }
 
-/// What more is said of a fault that `read_algorithm` has answered of this line of a text, where the line has one of the commonest
-/// slips.
+/// What more is said of a fault that `read_algorithm` has answered of this line of a text: its column, or which of the commonest
+/// slips it is.
 pub fn fault_detail(
     alloc: Global,
     text: &[u8],
@@ -471,6 +434,6 @@ pub fn fault_detail(
 ) -> Result<Option<FaultDetail>, AllocError>
     ensures { IfOk result (λ detail. detail ≡ fault_detail text.now number fault) }
 {
-    let lines = lines_up_to(alloc, number, text)?;
-    detail_in(alloc, fault, &lines)
+    let lines = lines_of(alloc, text)?;
+    detail_in(alloc, fault, lines_up_to(number, &lines), &lines)
 }

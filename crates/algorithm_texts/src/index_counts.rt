@@ -52,7 +52,7 @@ fn declared_by(alloc: Global, word: &[u8], line: &[u8]) -> Result<Option<usize>,
 }
 
 /// How many indexes the first of these lines that declares the word gives it.
-fn declared_in(alloc: Global, word: &[u8], lines: &[&[u8]]) -> Result<Option<usize>, AllocError>
+pub fn declared_in(alloc: Global, word: &[u8], lines: &[&[u8]]) -> Result<Option<usize>, AllocError>
     ensures { IfOk result (λ declared. declared ≡ declared_in word.now (map (λ line. line.now) lines.now)) }
 {
     for line in lines {
@@ -85,7 +85,7 @@ fn given_at(code: &[u8], places: &[usize]) -> usize
 }
 
 /// Whether a word after this token is accessed.
-fn is_access_after(code: &[u8], before: Option<usize>) -> bool
+pub fn is_access_after(code: &[u8], before: Option<usize>) -> bool
     ensures { result ≡ is_access_after code.now before }
 {
     let Some(before) = before else {

@@ -5,6 +5,7 @@
 #![tactic(auto)]
 
 mod accesses;
+mod block_lines;
 mod blocks;
 mod calls;
 mod checks;
@@ -24,6 +25,8 @@ mod likeness;
 mod lines;
 mod loops;
 mod marks;
+mod name_places;
+mod name_uses;
 mod names;
 mod operands;
 mod parts;

@@ -1,9 +1,9 @@
 //! The places of a line's tokens.
 
-ghost use Rattle.std.specs.Prelude.{◌≡◌, ◌<◌, ◌≤◌, length, drop, IfOk};
+ghost use Rattle.std.specs.Prelude.{◌≡◌, ◌<◌, ◌≤◌, length, drop, position, IfOk};
 ghost use Rattle.std.specs.List.{list_any};
 ghost use Rattle.std.specs.Option.{option_copied};
-ghost use Rattle.algorithm_texts.specs.TokenPlaces.{token_size, token_places, read_at, word_at, is_word_at, is_word_of, is_sign_at, is_sign_of, column_of};
+ghost use Rattle.algorithm_texts.specs.TokenPlaces.{token_size, token_places, read_at, word_at, is_word_at, is_word_of, is_sign_at, is_sign_of, places_after, column_of};
 
 use crate::parts::letters;
 use crate::tokens::{LineWord, Sign, Token, first_token, is_sign, is_word, tail};
@@ -136,5 +136,33 @@ pub fn is_sign_of(sign: Sign, code: &[u8], place: Option<&usize>) -> bool
     match place {
         Some(place) => is_sign_at(sign, code, *place),
         None => false,
+    }
+}
+
+/// Which of these tokens is the first that is this word.
+fn word_among(word: &[u8], code: &[u8], places: &[usize]) -> Option<usize>
+    ensures { result ≡ position (is_word_at word.now code.now) places.now }
+{
+    places
+        .iter()
+        .position(|place| is_word_at(word, code, *place))
+}
+
+/// Which of these tokens is the first that is this sign.
+pub fn sign_among(sign: Sign, code: &[u8], places: &[usize]) -> Option<usize>
+    ensures { result ≡ position (is_sign_at sign code.now) places.now }
+{
+    places
+        .iter()
+        .position(|place| is_sign_at(sign, code, *place))
+}
+
+/// The tokens after the first one that is this word.
+pub fn places_after<'p>(word: &[u8], code: &[u8], places: &'p [usize]) -> &'p [usize]
+    ensures { result.now ≡ places_after word.now code.now places.now }
+{
+    match word_among(word, code, places) {
+        Some(at) if at < places.len() => &places[at + 1..],
+        _ => &places[..0],
     }
 }

@@ -205,6 +205,13 @@ start_of_process w p call = do
   process ← process_of w p
   process_after_start w.algorithm (constants_of w p) process call
 
+-- the world after a process has come to the first access of its call, from the place at which the call begins
+abbrev pub begun_call : AlgorithmWorldState → ℕ → ℕ → Result AlgorithmWorldState AlgorithmRefusal
+begun_call w p entry = do
+  process ← process_of w p
+  begun ← begun_from w.algorithm (constants_of w p) entry (lasting_names w.algorithm.lasting process.store)
+  Ok (with_process w p begun)
+
 -- the world after a start
 abbrev pub start : AlgorithmWorldState → ℕ → AlgorithmCall → Result AlgorithmWorldState AlgorithmRefusal
 start w p call = do

@@ -1,9 +1,10 @@
 //! What one process does by itself: the start of a call, and a step with the words as they are.
 
 ghost use Rattle.std.specs.Prelude.{◌≡◌, ◌<◌, None, Ok, Err, IfOk, IfErr, OnOk, length};
+ghost use Rattle.algorithms.specs.declared.constants.Constants.{Constants as ConstantsOf};
 ghost use Rattle.algorithms.specs.LocalRuns.{nothing_noted};
-ghost use Rattle.algorithms.specs.Steps.{before_step, process_stopped_at, step_from};
-ghost use Rattle.algorithms.specs.Worlds.{access_at, start_refusal, process_after_start, taken_by};
+ghost use Rattle.algorithms.specs.Steps.{before_step, lasting_names, process_stopped_at, step_from};
+ghost use Rattle.algorithms.specs.Worlds.{access_at, begun_from, start_refusal, process_after_start, taken_by};
 
 use crate::access::{Advanced, Moved, Taken, act};
 use crate::algorithm::{Algorithm, AlgorithmCall};
@@ -58,24 +59,39 @@ fn start_refusal(
     }
 }
 
-/// Starts a call of a process.
-pub(crate) fn begin(
+/// Where the call of a process begins, if it may start it.
+pub(crate) fn call_entry(
     algorithm: &Algorithm,
-    constants: Constants,
     process: &AlgorithmProcess,
     call: AlgorithmCall,
-) -> Result<LocalState, AlgorithmRefusal>
-    requires { constants.me < constants.procs }
-    ensures ok { IfOk result (λ s. process_after_start algorithm.now constants process.now call ≡ Ok (process_stopped_at s None)) }
-    ensures refused { IfErr result (λ e. process_after_start algorithm.now constants process.now call ≡ Err e) }
+) -> Result<usize, AlgorithmRefusal>
+    ensures ok { IfOk result (λ entry. (c : ConstantsOf) → process_after_start algorithm.now c process.now call
+        ≡ begun_from algorithm.now c entry (lasting_names algorithm.now.lasting process.now.store)) }
+    ensures refused { IfErr result (λ e. (c : ConstantsOf) → process_after_start algorithm.now c process.now call ≡ Err e) }
 {
     let entry = algorithm
         .entries
         .of(call)
         .ok_or(AlgorithmRefusal::NoSuchCall)?;
-    if let Some(refusal) = start_refusal(algorithm, process.place, call) {
-        return Err(refusal);
+    match start_refusal(algorithm, process.place, call) {
+        None => Ok(entry),
+        Some(refusal) => Err(refusal),
     }
+}
+
+/// Brings a process from where its call begins to the first access.
+pub(crate) fn begin(
+    algorithm: &Algorithm,
+    constants: Constants,
+    process: &AlgorithmProcess,
+    entry: usize,
+) -> Result<LocalState, AlgorithmRefusal>
+    requires { constants.me < constants.procs }
+    ensures ok { IfOk result (λ s. begun_from algorithm.now constants entry (lasting_names algorithm.now.lasting process.now.store)
+        ≡ Ok (process_stopped_at s None)) }
+    ensures refused { IfErr result (λ e. begun_from algorithm.now constants entry (lasting_names algorithm.now.lasting process.now.store)
+        ≡ Err e) }
+{
     let store = process.store;
     let mut state = LocalState {
         at: entry,

@@ -11,11 +11,12 @@ use crate::first_rows::{FirstRows, all_at_rest, rest_all, restart_rows, rows_at_
 use crate::first_values::InitializedAlgorithm;
 use crate::first_words::{first_rows, has_all_values};
 use crate::process::{AlgorithmPlace, AlgorithmProcess};
-use crate::process_step::{access_at, begin, place_of, state_at, step_from, take};
+use crate::process_step::{access_at, begin, call_entry, place_of, state_at, step_from, take};
 use crate::promised_steps::PromisedSteps;
 use crate::refusal::AlgorithmRefusal;
 use std::alloc::{AllocError, Global};
 use std::marker::Model;
+use std::mem;
 use std::sync::Arc;
 
 /// The greatest limit of numbers, 2^62.
@@ -83,7 +84,7 @@ pub(crate) fn store(words: &mut [[u64; MOST_PROCS]], access: WordAccess)
 }
 
 impl AlgorithmWorld {
-    ghost use Rattle.algorithms.specs.Worlds.{first_world, new_refusal, cause, constants_of, process_of, start, start_of_process, step, advance, next_access, crash, world_at_beginning, with_process, promised_steps};
+    ghost use Rattle.algorithms.specs.Worlds.{first_world, new_refusal, cause, constants_of, process_of, start, start_of_process, begun_call, step, advance, next_access, crash, world_at_beginning, with_process, promised_steps};
 
     /// A world with the first values of all words, and all processes at rest. `limit` is the algorithm's `limit`.
     ///
@@ -144,8 +145,18 @@ impl AlgorithmWorld {
         ensures refused { IfErr result (λ e. start self.old p call ≡ Err e) }
         ensures err { OnErr result (self.new ≡ self.old) }
     {
+        let entry = call_entry(&self.algorithm, self.process_at(p)?, call)?;
+        self.begin_call(p, entry)
+    }
+
+    /// Takes a process to the first access of its call, from where the call begins.
+    fn begin_call(&mut self, p: u64, entry: usize) -> Result<(), AlgorithmRefusal>
+        ensures ok { OnOk result (begun_call self.old p entry ≡ Ok self.new) }
+        ensures refused { IfErr result (λ e. begun_call self.old p entry ≡ Err e) }
+        ensures err { OnErr result (self.new ≡ self.old) }
+    {
         let process = self.process_at(p)?;
-        let state = begin(&self.algorithm, self.constants(p), process, call)?;
+        let state = begin(&self.algorithm, self.constants(p), process, entry)?;
         let process = &mut self.processes[p as usize];
         process.place = AlgorithmPlace::At(state.at);
         let names = state.store;
@@ -215,8 +226,17 @@ impl AlgorithmWorld {
         ensures ok { OnOk result (is_ok (start self.now p call) ≡ true) }
         ensures refused { IfErr result (λ e. start self.now p call ≡ Err e) }
     {
+        let entry = call_entry(&self.algorithm, self.process_at(p)?, call)?;
+        self.check_begin_call(p, entry)
+    }
+
+    /// Whether a process comes to the first access of its call, from where the call begins.
+    fn check_begin_call(&self, p: u64, entry: usize) -> Result<(), AlgorithmRefusal>
+        ensures ok { OnOk result (is_ok (begun_call self.now p entry) ≡ true) }
+        ensures refused { IfErr result (λ e. begun_call self.now p entry ≡ Err e) }
+    {
         let process = self.process_at(p)?;
-        begin(&self.algorithm, self.constants(p), process, call)?;
+        begin(&self.algorithm, self.constants(p), process, entry)?;
         Ok(())
     }
 
@@ -274,7 +294,7 @@ impl AlgorithmWorld {
         ensures refused { IfErr result (λ e. crash self.old p ≡ Err e) }
         ensures err { OnErr result (self.new ≡ self.old) }
     {
-        self.process(p)?;
+        self.process_at(p)?;
         self.processes[p as usize] = AlgorithmProcess {
             place: AlgorithmPlace::Dead,
             store: [0; NAMES],
@@ -393,13 +413,13 @@ impl AlgorithmWorld {
         store(self.words.as_mut_slice(), access);
     }
 
-    /// For this workspace alone, as `seam_set_word`: sets the private memory of a process. One that is not there has none.
-    pub fn seam_set_process(&mut self, p: u64, process: AlgorithmProcess)
-        ensures { self.new ≡ with_process self.old p process }
+    /// For this workspace alone, as `seam_set_word`: takes these processes for its own, and gives its own for them.
+    pub fn seam_swap_processes(&mut self, processes: &mut Vec<AlgorithmProcess>)
+        requires { length processes.old.items ≡ self.old.procs }
+        ensures world { self.new ≡ record self.old { processes = processes.old.items } }
+        ensures given { processes.new.items ≡ self.old.processes }
     {
-        if let Some(place) = self.processes.get_mut(p as usize) {
-            *place = process;
-        }
+        mem::swap(&mut self.processes, processes);
     }
 
     /// What this process knows beside its private names.

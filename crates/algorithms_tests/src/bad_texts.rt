@@ -68,6 +68,7 @@ read texts with a fault\n\
 == lock twice\nalgorithm a for 2 processes\npromises exclusion\nshared flag[procs] up to 1\nshared turn\ncall lock\n  turn := 1\n  done\ncall lock\n  turn := 0\n  done\n--\nline 8: fault 17\n\
 == withdraw that is never allowed\nalgorithm a for 2 processes\npromises exclusion\nshared flag[procs] up to 1\nshared turn\ncall lock\n  turn := 1\n  done\ncall unlock\n  turn := 0 this is leave\n  done\ncall withdraw\n  turn := 0\n  done\n--\nline 11: fault 17\n\
 == may withdraw without it\nalgorithm a for 2 processes\npromises exclusion\nshared flag[procs] up to 1\nshared turn\ncall lock\n  turn := 1 may withdraw\n  done\ncall unlock\n  turn := 0 this is leave\n  done\n--\nline 6: fault 17\n\
+== something is taken from a fact\nalgorithm a for 2 processes\npromises exclusion\nshared flag[procs] up to 1\nshared turn\nnever for p: p is inside and 1 - p is inside\ncall lock\n  turn := 1 this is enter\n  done\ncall unlock\n  turn := 0 this is leave\n  done\n--\nline 5: fault 4\n\
 == never reached\nalgorithm a for 2 processes\npromises exclusion\nshared flag[procs] up to 1\nshared turn\ncall lock\n  turn := 1\n  done\n  turn := 2\n  done\ncall unlock\n  turn := 0 this is leave\n  done\n--\nline 8: fault 18\n\
 == promises in another order\nalgorithm a for 2 processes\npromises order, exclusion\n--\nline 2: fault 4\n\
 == letters after a number\nalgorithm a for 2 processes\npromises exclusion\nshared flag[procs] up to 1\nshared turn\ncall lock\n  turn := 1a\n  done\ncall unlock\n  turn := 0 this is leave\n  done\n--\nline 6: fault 4\n\

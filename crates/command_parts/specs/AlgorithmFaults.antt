@@ -48,11 +48,14 @@ column_of_detail details.LongLine = Some 1001
 column_of_detail details.NoThen = None
 column_of_detail (details.WrongIndexes column declared given) = Some column
 column_of_detail (details.ReservedWord column) = Some column
+column_of_detail (details.EqualSign column) = Some column
+column_of_detail (details.UnfitDeed column) = Some column
+column_of_detail (details.AtColumn column) = Some column
 column_of_detail (details.NoEnd line) = None
 column_of_detail details.NoBlock = None
 column_of_detail details.NoIf = None
 
--- what it says, where no number belongs to it
+-- what it says, where no number belongs to it: of a token alone, nothing
 abbrev pub words_of_detail : FaultDetail → List ℕ
 words_of_detail (details.Tab column) = codes "a tab"
 words_of_detail (details.CarriageReturn column) = codes "a carriage return: a line ends with LF alone"
@@ -65,6 +68,9 @@ words_of_detail details.LongLine = codes "a line of more than 1000 characters"
 words_of_detail details.NoThen = codes "an `if` without `then`"
 words_of_detail (details.WrongIndexes column declared given) = []
 words_of_detail (details.ReservedWord column) = codes "a word of the format as a name"
+words_of_detail (details.EqualSign column) = codes "a `=` where `:=` is meant"
+words_of_detail (details.UnfitDeed column) = codes "this deed does not fit here"
+words_of_detail (details.AtColumn column) = []
 words_of_detail (details.NoEnd line) = []
 words_of_detail details.NoBlock = codes "an `end` without a block"
 words_of_detail details.NoIf = codes "an `else` without an `if`"
@@ -82,7 +88,8 @@ text_of_column (Some column) = codes ", column " ++ decimal column
 abbrev pub column_text : Option FaultDetail → List ℕ
 column_text detail = text_of_column (option_and_then column_of_detail detail)
 
--- what is said more, or else the sentence of the fault
+-- what is said more, or else the sentence of the fault, also where a column alone is said
 abbrev pub sentence_with : ReadFault → Option FaultDetail → List ℕ
 sentence_with fault None = sentence_of fault
-sentence_with fault (Some detail) = text_of_detail detail
+sentence_with fault (Some (details.AtColumn column)) = sentence_of fault
+sentence_with fault (Some other) = text_of_detail other

@@ -75,7 +75,10 @@ pub(crate) fn column_of_detail(detail: FaultDetail) -> Option<u64>
         | FaultDetail::LargeNumber { column }
         | FaultDetail::LongName { column }
         | FaultDetail::WrongIndexes { column, .. }
-        | FaultDetail::ReservedWord { column } => Some(column),
+        | FaultDetail::ReservedWord { column }
+        | FaultDetail::EqualSign { column }
+        | FaultDetail::UnfitDeed { column }
+        | FaultDetail::AtColumn { column } => Some(column),
         FaultDetail::LongLine => Some(1001),
         FaultDetail::NoThen
         | FaultDetail::NoEnd { .. }
@@ -84,7 +87,7 @@ pub(crate) fn column_of_detail(detail: FaultDetail) -> Option<u64>
     }
 }
 
-/// What a detail says, where no number belongs to it.
+/// What a detail says, where no number belongs to it. Of a token alone it says nothing.
 pub(crate) fn words_of_detail(detail: FaultDetail) -> &'static str
     ensures words { result.now ≡ words_of_detail detail }
     ensures few { length result.now ≤ 54 }
@@ -100,7 +103,11 @@ pub(crate) fn words_of_detail(detail: FaultDetail) -> &'static str
         FaultDetail::LongLine => "a line of more than 1000 characters",
         FaultDetail::NoThen => "an `if` without `then`",
         FaultDetail::ReservedWord { .. } => "a word of the format as a name",
-        FaultDetail::WrongIndexes { .. } | FaultDetail::NoEnd { .. } => "",
+        FaultDetail::EqualSign { .. } => "a `=` where `:=` is meant",
+        FaultDetail::UnfitDeed { .. } => "this deed does not fit here",
+        FaultDetail::WrongIndexes { .. }
+        | FaultDetail::NoEnd { .. }
+        | FaultDetail::AtColumn { .. } => "",
         FaultDetail::NoBlock => "an `end` without a block",
         FaultDetail::NoIf => "an `else` without an `if`",
     }

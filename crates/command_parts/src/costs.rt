@@ -2,17 +2,19 @@
 
 ghost use Rattle.std.specs.Prelude.{◌≡◌, ◌++◌, ◌≤◌, false, length, IfOk};
 ghost use Rattle.schedule.specs.Schedules.{spelling};
-ghost use Rattle.command_parts.specs.Costs.{cost_line as cost_line_by, kind_text as kind_text_by, unbounded_line as unbounded_line_by};
+ghost use Rattle.command_parts.specs.Costs.{cost_line as cost_line_by, kind_text as kind_text_by, line_of_cost as line_of_cost_by};
+ghost use Rattle.command_parts.specs.Costs.{path_of_cost as path_of_cost_by, status_of_cost as status_of_cost_by, unbounded_line as unbounded_line_by};
 ghost use Rattle.command_parts.specs.Endings.{IsEnded, Prints};
 
 use crate::ending::Ending;
 use crate::fault::CommandFault;
-use crate::findings::tell_text;
+use crate::findings::{path_of_lasso, tell_text};
 use crate::line::put;
 use algorithms::PassageKind;
 use arrayvec::ArrayString;
+use passages::PassageCost;
 use schedule::{Schedule, Sink, write_schedule};
-use std::alloc::Global;
+use std::alloc::{AllocError, Global};
 
 /// What stands between a process and its cost.
 fn kind_text(kind: PassageKind) -> &'static str
@@ -65,34 +67,51 @@ fn tell_with_line<W: Sink>(
     tell_text(&text, status, w)
 }
 
-/// Writes a schedule that reaches the greatest cost, and then what a passage of this process costs on it.
-pub fn tell_costly_schedule<W: Sink>(
-    alloc: Global,
-    schedule: &Schedule,
-    kind: PassageKind,
-    process: u64,
-    cost: u64,
-    w: &mut W,
-) -> Result<Ending, CommandFault>
-    ensures prints { Prints 0 (spelling schedule.now ++ cost_line_by kind process cost) (W.tape w.old) (W.tape w.new) result }
-    ensures ended { IfOk result (IsEnded false (W.tape w.old).failures (W.tape w.new).failures) }
+/// The line that tells what was found.
+fn line_of_cost<M>(kind: PassageKind, cost: &PassageCost<M>) -> ArrayString<192>
+    ensures { result.bytes ≡ line_of_cost_by kind cost.now }
 {
-    let line = cost_line(kind, process, cost);
-    tell_with_line(alloc, schedule, line.as_bytes(), 0, w)
+    match cost {
+        PassageCost::Greatest(found) => cost_line(kind, found.process, found.cost),
+        PassageCost::Unbounded(lasso) => {
+            unbounded_line(kind, lasso.process, lasso.cycle.len() as u64)
+        }
+    }
 }
 
-/// Writes a schedule that ends with a cycle by which there is no greatest cost, and then of which process, and how long the cycle is.
-pub fn tell_costly_cycle<W: Sink>(
+/// The exit status: 1 where no cost is the greatest.
+fn status_of_cost<M>(cost: &PassageCost<M>) -> u8
+    ensures status { result ≡ status_of_cost_by cost.now }
+    ensures few { result ≤ 1 }
+{
+    match cost {
+        PassageCost::Greatest(_) => 0,
+        PassageCost::Unbounded(_) => 1,
+    }
+}
+
+/// The moves of a schedule that reaches the greatest cost, or to the end of a cycle by which there is none.
+pub fn path_of_cost<M: Copy>(alloc: Global, cost: &PassageCost<M>) -> Result<Vec<M>, AllocError>
+    ensures { IfOk result (λ path. path.items ≡ path_of_cost_by cost.now) }
+{
+    match cost {
+        PassageCost::Greatest(found) => Vec::from_slice(alloc, found.schedule.as_slice()),
+        PassageCost::Unbounded(lasso) => path_of_lasso(alloc, lasso),
+    }
+}
+
+/// Writes the schedule of these moves, and then the line that tells what was found.
+pub fn tell_cost<M, W: Sink>(
     alloc: Global,
     schedule: &Schedule,
     kind: PassageKind,
-    process: u64,
-    cycle: u64,
+    cost: &PassageCost<M>,
     w: &mut W,
 ) -> Result<Ending, CommandFault>
-    ensures prints { Prints 1 (spelling schedule.now ++ unbounded_line_by kind process cycle) (W.tape w.old) (W.tape w.new) result }
+    ensures prints { Prints (status_of_cost_by cost.now) (spelling schedule.now ++ line_of_cost_by kind cost.now)
+        (W.tape w.old) (W.tape w.new) result }
     ensures ended { IfOk result (IsEnded false (W.tape w.old).failures (W.tape w.new).failures) }
 {
-    let line = unbounded_line(kind, process, cycle);
-    tell_with_line(alloc, schedule, line.as_bytes(), 1, w)
+    let line = line_of_cost(kind, cost);
+    tell_with_line(alloc, schedule, line.as_bytes(), status_of_cost(cost), w)
 }

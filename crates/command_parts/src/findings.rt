@@ -10,9 +10,10 @@ ghost use Rattle.std.specs.Fmt.{decimal};
 use crate::ending::Ending;
 use crate::fault::CommandFault;
 use crate::line::{line_around, starves_line};
+use explorer::Lasso;
 use schedule::texts::device::write_all;
 use schedule::{Schedule, Sink, Verdict, put_verdict, write_schedule};
-use std::alloc::Global;
+use std::alloc::{AllocError, Global};
 
 /// Writes a text. The command then ends with this status.
 pub fn tell_text<W: Sink>(text: &[u8], status: u8, w: &mut W) -> Result<Ending, CommandFault>
@@ -95,6 +96,15 @@ pub fn tell_never_starving<W: Sink>(states: u64, w: &mut W) -> Result<Ending, Co
     ensures ended { IfOk result (IsEnded false (W.tape w.old).failures (W.tape w.new).failures) }
 {
     tell_none("never starving: all ", states, " states\n", w)
+}
+
+/// The moves of the stem, and then those of the cycle.
+pub fn path_of_lasso<M: Copy>(alloc: Global, lasso: &Lasso<M>) -> Result<Vec<M>, AllocError>
+    ensures { IfOk result (λ path. path.items ≡ lasso.now.stem.items ++ lasso.now.cycle.items) }
+{
+    let mut path = Vec::from_slice(alloc, lasso.stem.as_slice())?;
+    path.extend_from_slice(lasso.cycle.as_slice())?;
+    Ok(path)
 }
 
 /// Writes the schedule in which a process starves, and then whose call it is and how long the cycle at its end.

@@ -111,8 +111,8 @@ fn put_sentence(line: &mut ArrayString<192>, fault: ReadFault, detail: Option<Fa
     ensures few { length line.new.bytes ≤ length line.old.bytes + 74 }
 {
     match detail {
+        Some(FaultDetail::AtColumn { .. }) | None => line.push_str(sentence_of(fault)),
         Some(detail) => put_detail(line, detail),
-        None => line.push_str(sentence_of(fault)),
     }
 }
 

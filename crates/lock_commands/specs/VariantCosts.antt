@@ -1,19 +1,17 @@
 -- How a search for the greatest cost of a variant's passages ends.
-use Rattle.std.specs.Prelude.{◌≡◌, ◌⊎◌, ◌++◌, length, Result, Err}
-use Rattle.explorer.specs.declared.found.Lasso.{Lasso}
+use Rattle.std.specs.Prelude.{◌≡◌, ◌⊎◌, ◌++◌, Result, Err}
 use Rattle.crashlab.specs.declared.space.moves.Move.{Move}
 use Rattle.crashlab.specs.space.Spaces.{SearchState, first_search_state}
 use Rattle.passages.specs.declared.question.CostQuestion.{CostQuestion}
 use Rattle.passages.specs.PassageCosts.{HasMoreCostStates, IsCostFrom}
 use Rattle.passages.specs.PassageSpaces.{passage_costs, passage_rules, variant_schedules}
-use Rattle.passages.specs.declared.question.CostlySchedule.{CostlySchedule}
-use Rattle.passages.specs.declared.question.PassageCost.TheVariants.{Greatest, Unbounded}
+use Rattle.passages.specs.declared.question.PassageCost.{PassageCost}
 use Rattle.lock_explorer.specs.VariantCosts.{passages_from}
 use Rattle.schedule.specs.Schedules.{spelling}
 use Rattle.schedule.specs.Tapes.{Tape}
 use Rattle.schedule.specs.Wholes.{Silent}
 use Rattle.cli.specs.declared.arguments.args.VariantCostArgs.{VariantCostArgs}
-use Rattle.command_parts.specs.Costs.{cost_line, unbounded_line}
+use Rattle.command_parts.specs.Costs.{line_of_cost, path_of_cost, status_of_cost}
 use Rattle.command_parts.specs.declared.ending.Ending.{Ending}
 use Rattle.command_parts.specs.declared.fault.CommandFault.{CommandFault}
 use Rattle.command_parts.specs.declared.fault.CommandFault.TheVariants.{BadSize, TooManyStates}
@@ -27,17 +25,11 @@ start_of args = first_search_state args.search.variant (layout_of args.search) a
 abbrev pub question_of : VariantCostArgs → CostQuestion
 question_of args = record { model = args.model; kind = args.kind }
 
--- a schedule that reaches the greatest cost is written, with the process and the cost
+-- a schedule that reaches the greatest cost, or to the end of a cycle by which there is none, is written, and then the line that tells it
 pub record TellsVariantCost (args : VariantCostArgs) (before now : Tape) (end : Result Ending CommandFault) : Type 0 where
-  pub found : CostlySchedule Move
-  pub is : IsCostFrom variant_schedules (question_of args) (start_of args) (Greatest found)
-  pub prints : Prints 0 (spelling (schedule_of args.search found.schedule.items) ++ cost_line args.kind found.process found.cost) before now end
-
--- a schedule to the end of a cycle by which there is no greatest cost is written, with the process and the cycle's length
-pub record TellsUnboundedVariant (args : VariantCostArgs) (before now : Tape) (end : Result Ending CommandFault) : Type 0 where
-  pub lasso : Lasso Move
-  pub is : IsCostFrom variant_schedules (question_of args) (start_of args) (Unbounded lasso)
-  pub prints : Prints 1 (spelling (schedule_of args.search (lasso.stem.items ++ lasso.cycle.items)) ++ unbounded_line args.kind lasso.process (length lasso.cycle.items)) before now end
+  pub cost : PassageCost Move
+  pub is : IsCostFrom variant_schedules (question_of args) (start_of args) cost
+  pub prints : Prints (status_of_cost cost) (spelling (schedule_of args.search (path_of_cost cost)) ++ line_of_cost args.kind cost) before now end
 
 -- there are more states than may be kept, and nothing was written
 pub record HasTooManyPassageStates (args : VariantCostArgs) (before now : Tape) : Type 0 where
@@ -48,7 +40,6 @@ pub record HasTooManyPassageStates (args : VariantCostArgs) (before now : Tape) 
 abbrev pub VariantCostEnds : VariantCostArgs → Tape → Tape → Result Ending CommandFault → Type 0
 VariantCostEnds args before now end =
     TellsVariantCost args before now end
-    ⊎ TellsUnboundedVariant args before now end
     ⊎ (end ≡ Err BadSize) × IsNoSize args.search × Silent before now
     ⊎ (end ≡ Err TooManyStates) × HasTooManyPassageStates args before now
     ⊎ RunsOut before now end

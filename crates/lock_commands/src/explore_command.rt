@@ -1,9 +1,9 @@
 //! The command `explore`.
 
-ghost use Rattle.std.specs.Prelude.{◌≡◌, ◌++◌, false, ◌≤◌, take, replicate, IfErr, IfOk, IfSome, IsSome, OnOk, ◌↔◌};
+ghost use Rattle.std.specs.Prelude.{◌≡◌, ◌++◌, false, ◌≤◌, take, replicate, IfErr, IfOk, IfSome, IsOk, IsSome, OnOk, ◌↔◌};
 ghost use Rattle.command_parts.specs.Endings.{IsEnded, Prints};
 ghost use Rattle.schedule.specs.Schedules.{spelling};
-ghost use Rattle.lock_commands.specs.Explores.{appends as appends_of, calls_of as calls_asked, crash_counts, ExploreEnds, ShortestEnds, schedule_of as schedule_by, variables_by};
+ghost use Rattle.lock_commands.specs.Explores.{appends as appends_of, calls_of as calls_asked, crash_counts, ExploreEnds, IsNoSize, ShortestEnds, layout_of as layout_by, schedule_of as schedule_by, variables_by};
 ghost use Rattle.crashlab.specs.space.Spaces.{line_by};
 
 use crate::starvation::{tell_both, tell_starving};
@@ -117,6 +117,22 @@ pub(crate) fn tell_path<W: Sink>(
     tell_schedule(alloc, &schedule, w)
 }
 
+/// The sizes of the search's worlds. `BadSize`: no value has this width.
+pub(crate) fn layout_of(args: &ExploreArgs) -> Result<Layout, CommandFault>
+    ensures layout { IfOk result (λ layout. layout ≡ layout_by args.now) }
+    ensures wide { IsOk result ↔ ((1 ≤ args.now.width) × (args.now.width ≤ 8)) }
+    ensures refused { IfErr result (λ fault. (fault ≡ CommandFault.BadSize) × IsNoSize args.now) }
+{
+    if args.width == 0 || args.width > 8 {
+        return Err(CommandFault::BadSize);
+    }
+    Ok(Layout {
+        procs: args.procs,
+        cap: args.cap,
+        width: args.width,
+    })
+}
+
 /// The most crashes of a schedule.
 pub(crate) fn counts_of(args: &ExploreArgs) -> CrashCounts
     ensures { result ≡ crash_counts args.now }
@@ -149,14 +165,7 @@ fn tell_shortest<T: Threads + Sync, S: Screen, W: Sink>(
     ensures ends { ShortestEnds args.now (W.tape w.old) (W.tape w.new) result }
     ensures ended { IfOk result (IsEnded false (W.tape w.old).failures (W.tape w.new).failures) }
 {
-    if args.width == 0 || args.width > 8 {
-        return Err(CommandFault::BadSize);
-    }
-    let layout = Layout {
-        procs: args.procs,
-        cap: args.cap,
-        width: args.width,
-    };
+    let layout = layout_of(args)?;
     let bounds = Bounds {
         crashes: counts_of(args),
         moves: args.moves,

@@ -6,14 +6,13 @@ ghost use Rattle.schedule.specs.Schedules.{spelling};
 ghost use Rattle.lock_commands.specs.Explores.{BothEnd, StarvingEnds, schedule_of as schedule_by};
 ghost use Rattle.command_parts.specs.Findings.{starves_line as starves_line_by};
 
-use crate::explore_command::{calls_of, counts_of, schedule_of};
+use crate::explore_command::{calls_of, counts_of, layout_of, schedule_of};
 use crate::stuck::tell_stuck;
 use cli::arguments::args::{Cycles, ExploreArgs};
-use command_parts::findings::{tell_never_starving, tell_starves};
+use command_parts::findings::{path_of_lasso, tell_never_starving, tell_starves};
 use command_parts::options::is_any;
 use command_parts::{CommandFault, Ending, Meter, Screen, Work};
 use lock_explorer::{ExploreFault, Lasso, Move, StarvingOutcome, StuckBounds, starving_schedule};
-use redomail::Layout;
 use schedule::Sink;
 use std::alloc::Global;
 
@@ -28,10 +27,9 @@ fn tell_lasso<W: Sink>(
         ++ starves_line_by lasso.now.process (length lasso.now.cycle.items)) (W.tape w.old) (W.tape w.new) result }
     ensures ended { IfOk result (IsEnded false (W.tape w.old).failures (W.tape w.new).failures) }
 {
-    let mut path = Vec::from_slice(alloc, lasso.stem.as_slice())?;
-    let cycle = lasso.cycle.as_slice();
-    path.extend_from_slice(cycle)?;
+    let path = path_of_lasso(alloc, lasso)?;
     let schedule = schedule_of(alloc, args, &path)?;
+    let cycle = lasso.cycle.as_slice();
     tell_starves(alloc, &schedule, lasso.process, cycle.len() as u64, w)
 }
 
@@ -46,14 +44,7 @@ pub(crate) fn tell_starving<S: Screen, W: Sink>(
     ensures ends { StarvingEnds cycles args.now (W.tape w.old) (W.tape w.new) result }
     ensures ended { IfOk result (IsEnded false (W.tape w.old).failures (W.tape w.new).failures) }
 {
-    if args.width == 0 || args.width > 8 {
-        return Err(CommandFault::BadSize);
-    }
-    let layout = Layout {
-        procs: args.procs,
-        cap: args.cap,
-        width: args.width,
-    };
+    let layout = layout_of(args)?;
     let bounds = StuckBounds {
         crashes: counts_of(args),
         states: args.states,

@@ -7,7 +7,7 @@ ghost use Rattle.lock_commands.specs.Explores.{IsNoSize};
 ghost use Rattle.lock_commands.specs.States.{machine_of as machine_by, start_of, states_run, StatesEnds, words_of};
 ghost use Rattle.command_parts.specs.StateTexts.{ToolEnds};
 
-use crate::explore_command::{calls_of, counts_of, tell_path};
+use crate::explore_command::{calls_of, counts_of, layout_of, tell_path};
 use crate::machine_text::machine_of;
 use cli::arguments::args::{ExploreArgs, StatesArgs, StatesTool};
 use command_parts::states::expansion::expand_input;
@@ -19,7 +19,6 @@ use command_parts::states::states_start::write_first;
 use command_parts::{CommandFault, Ending};
 use explorer::Space;
 use lock_explorer::{Explorer, moves_of_path};
-use redomail::Layout;
 use rmecore::Refusal;
 use schedule::{Sink, Source};
 use state_streams::{Approach, KeyForm};
@@ -31,14 +30,7 @@ fn explorer_of(alloc: Global, args: &ExploreArgs) -> Result<Explorer, CommandFau
     ensures refused { IfErr result (λ fault. (fault ≡ CommandFault.OutOfMemory)
         ⊎ (fault ≡ CommandFault.BadSize) × IsNoSize args.now) }
 {
-    if args.width == 0 || args.width > 8 {
-        return Err(CommandFault::BadSize);
-    }
-    let layout = Layout {
-        procs: args.procs,
-        cap: args.cap,
-        width: args.width,
-    };
+    let layout = layout_of(args)?;
     let calls = calls_of(alloc, args)?;
     match Explorer::new(
         alloc,

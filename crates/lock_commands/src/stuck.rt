@@ -4,12 +4,11 @@ ghost use Rattle.std.specs.Prelude.{false, IfOk};
 ghost use Rattle.command_parts.specs.Endings.{IsEnded};
 ghost use Rattle.lock_commands.specs.Explores.{StuckEnds};
 
-use crate::explore_command::{calls_of, counts_of, tell_path};
+use crate::explore_command::{calls_of, counts_of, layout_of, tell_path};
 use cli::arguments::args::ExploreArgs;
 use command_parts::findings::tell_never;
 use command_parts::{CommandFault, Ending, Meter, Screen, Work};
 use lock_explorer::{ExploreFault, StuckBounds, StuckOutcome, stuck_schedule};
-use redomail::Layout;
 use schedule::Sink;
 use std::alloc::Global;
 
@@ -24,14 +23,7 @@ pub(crate) fn tell_stuck<S: Screen, W: Sink>(
     ensures ends { StuckEnds args.now (W.tape w.old) (W.tape w.new) result }
     ensures ended { IfOk result (IsEnded false (W.tape w.old).failures (W.tape w.new).failures) }
 {
-    if args.width == 0 || args.width > 8 {
-        return Err(CommandFault::BadSize);
-    }
-    let layout = Layout {
-        procs: args.procs,
-        cap: args.cap,
-        width: args.width,
-    };
+    let layout = layout_of(args)?;
     let bounds = StuckBounds {
         crashes: counts_of(args),
         states: args.states,

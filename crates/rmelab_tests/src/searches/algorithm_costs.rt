@@ -159,11 +159,11 @@ rmelab: too many states
 pub const COSTS_THAT_FAIL: &str = "
 @program
 @row rmelab cost --algorithm a.lock --model dsm --procs 2 @file a.lock HIDDEN @ends 2 @err
-rmelab: algorithm line 6: fault 7: a second access in one line
+rmelab: algorithm line 6, column 6: fault 7: a second access in one line
 @row rmelab cost --algorithm a.lock --model dsm --procs 2 @ends 3 @err UNREAD
 @row rmelab cost --algorithm a.lock --model dsm --procs 2 @file a.lock PETERSON @fails file-read @ends 3 @err UNREAD
 @row rmelab cost --algorithm a.lock --model write-through --procs 2 @file a.lock PETERSON @fails write @ends 3 @err UNWRITTEN
 @row rmelab cost --algorithm a.lock --model dsm --procs 2 --mean @file a.lock HIDDEN @ends 2 @err
-rmelab: algorithm line 6: fault 7: a second access in one line
+rmelab: algorithm line 6, column 6: fault 7: a second access in one line
 @row rmelab cost --algorithm a.lock --model dsm --procs 2 --mean --steps 1 @file a.lock PETERSON @fails write @ends 3 @err UNWRITTEN
 ";

@@ -24,7 +24,7 @@ const EXPORTS: &str = "
 const EXPORTS_THAT_FAIL: &str = "
 @program
 @row rmelab export --promela a.lock --procs 2 @file a.lock HIDDEN @ends 2 @err
-rmelab: algorithm line 6: fault 7: a second access in one line
+rmelab: algorithm line 6, column 6: fault 7: a second access in one line
 @row rmelab export --promela a.lock --procs 2 @ends 3 @err UNREAD
 @row rmelab export --promela a.lock --procs 2 @file a.lock PETERSON @fails file-read @ends 3 @err UNREAD
 @row rmelab export --promela a.lock --procs 2 @file a.lock PETERSON @fails write @ends 3 @err UNWRITTEN

@@ -28,10 +28,10 @@ rme@file a.lock
 @err
 rmelab: algorithm line 1: fault 1: the first two lines are no header and promises
 @row rmelab replay --algorithm a.lock @in NINE_STEPS @file a.lock HIDDEN @ends 2 @err
-rmelab: algorithm line 6: fault 7: a second access in one line
+rmelab: algorithm line 6, column 6: fault 7: a second access in one line
 @row rmelab replay --algorithm a.lock @file a.lock HIDDEN @ends 2 @in
 rme@err
-rmelab: algorithm line 6: fault 7: a second access in one line
+rmelab: algorithm line 6, column 6: fault 7: a second access in one line
 @row rmelab replay --algorithm a.lock @in NINE_STEPS @ends 2 @file a.lock
 algorithm \0
 @err
@@ -125,6 +125,39 @@ call lock
   done
 @err
 rmelab: algorithm line 5, column 8: fault 4: indexes given: 0, declared: 1
+@row rmelab explore --algorithm a.lock --procs 2 @ends 2 @file a.lock
+algorithm a for 2 processes
+promises exclusion
+shared x
+call lock
+  x := 1 this is begin
+  done
+call unlock
+  x := 0 this is leave
+  done
+@err
+rmelab: algorithm line 5, column 18: fault 15: this deed does not fit here
+@row rmelab explore --algorithm a.lock --procs 2 @ends 2 @file a.lock
+algorithm a for 2 processes
+promises exclusion
+shared x
+call lock
+  x := 1
+  done
+call unlock
+  x := 0 this is leave
+  done
+@err
+rmelab: algorithm line 4: fault 15: a deed does not fit, or `enter` or `leave` is missing
+@row rmelab explore --algorithm a.lock --procs 2 @ends 2 @file a.lock
+algorithm a for 2 processes
+promises exclusion
+shared x
+call lock
+  x = 1
+  done
+@err
+rmelab: algorithm line 5, column 5: fault 4: a `=` where `:=` is meant
 @row rmelab replay --algorithm a.lock b.rme @file a.lock PETERSON @ends 2 @file b.rme
 rme 1 procs 3 limit 1 cap 1
 lock 0

@@ -298,22 +298,22 @@ fn pages_of_an_algorithm(rt: HostRuntime) -> Result<(), Fail> {
 pub const COMMANDS_ON_AN_ALGORITHM_THAT_FAIL: &str = "
 @program
 @row rmelab hunt --algorithm a.lock --seed 1 --rounds 1 --steps 3 @in ALONE @file a.lock HIDDEN @ends 2 @err
-rmelab: algorithm line 6: fault 7: a second access in one line
+rmelab: algorithm line 6, column 6: fault 7: a second access in one line
 @row rmelab hunt --algorithm a.lock --seed 1 --rounds 1 --steps 3 @in ALONE @ends 3 @err UNREAD
 @row rmelab hunt --algorithm a.lock --seed 1 --rounds 1 --steps 3 @in ALONE @file a.lock PETERSON @fails file-read @ends 3 @err UNREAD
 @row rmelab hunt --algorithm a.lock --seed 1 --rounds 1 --steps 3 @in ALONE @file a.lock PETERSON @fails write @ends 3 @err UNWRITTEN
 @row rmelab draw --algorithm a.lock @in ALONE @file a.lock HIDDEN @ends 2 @err
-rmelab: algorithm line 6: fault 7: a second access in one line
+rmelab: algorithm line 6, column 6: fault 7: a second access in one line
 @row rmelab draw --algorithm a.lock @in ALONE @ends 3 @err UNREAD
 @row rmelab draw --algorithm a.lock @in ALONE @file a.lock PETERSON @fails file-read @ends 3 @err UNREAD
 @row rmelab draw --algorithm a.lock @in ALONE @file a.lock PETERSON @fails write @ends 3 @err UNWRITTEN
 @row rmelab shrink --algorithm a.lock @in ALONE @file a.lock HIDDEN @ends 2 @err
-rmelab: algorithm line 6: fault 7: a second access in one line
+rmelab: algorithm line 6, column 6: fault 7: a second access in one line
 @row rmelab shrink --algorithm a.lock @in ALONE @ends 3 @err UNREAD
 @row rmelab shrink --algorithm a.lock @in ALONE @file a.lock PETERSON @fails file-read @ends 3 @err UNREAD
 @row rmelab shrink --algorithm a.lock @in ALONE @file a.lock PETERSON @fails write @ends 3 @err UNWRITTEN
 @row rmelab step --algorithm a.lock @in ALONE @file a.lock HIDDEN @ends 2 @err
-rmelab: algorithm line 6: fault 7: a second access in one line
+rmelab: algorithm line 6, column 6: fault 7: a second access in one line
 @row rmelab step --algorithm a.lock @in ALONE @ends 3 @err UNREAD
 @row rmelab step --algorithm a.lock @in ALONE @file a.lock PETERSON @fails file-read @ends 3 @err UNREAD
 @row rmelab step --algorithm a.lock @in ALONE @file a.lock PETERSON @fails write @ends 3 @err UNWRITTEN

@@ -10,9 +10,8 @@ returns-clause-prints g c =
     let lasso = c.args.lasso.now in
     let before = g.W.Sink.tape c.args.w.now in
     let now = g.W.Sink.tape c.tell_starves.new.w in
-    let stem = c.in_ok-path.ensures.items ∙ c.as_slice.ensures.value in
     let cycle = c.as_slice-cycle.ensures.value in
-    let path : c.deref.result.now ≡ lasso.stem.items ++ lasso.cycle.items = c.deref.ensures.value ∙ c.in_ok-extend_from_slice.ensures.items ∙ (λ i. stem i ++ cycle i) in
+    let path : c.deref.result.now ≡ lasso.stem.items ++ lasso.cycle.items = c.deref.ensures.value ∙ c.in_ok-path.ensures in
     subst (λ (many : ℕ). Prints 1 (spelling (schedule_of c.args.args.now (lasso.stem.items ++ lasso.cycle.items)) ++ starves_line lasso.process many) before now c.tell_starves.result) (ap length cycle)
     (subst (λ (schedule : Scheduled). Prints 1 (spelling schedule ++ starves_line lasso.process (length c.as_slice-cycle.result.now)) before now c.tell_starves.result)
     (c.in_ok-schedule.ensures.schedule ∙ ap (schedule_of c.args.args.now) path) c.tell_starves.ensures.prints)

@@ -26,7 +26,7 @@ returns-in-Ok-NoneWithin-clause-ends g c =
     let o : ExploreArgs = c.args.args.now in
     let none = rw c.in-Ok-NoneWithin.field-0-is at (rw c.in-Ok-NoneWithin.is at c.shortest_schedule_in_parallel-found.ensures.none_within) in
     let calls = c.deref.ensures.value ∙ c.in_ok-calls.ensures.listed in
-    inr (inl (record { none = subst (λ calls. NoneOfAtMost o.variant (layout_of o) o.limit (crash_counts o) calls o.moves) calls (subst (λ counts. NoneOfAtMost o.variant (layout_of o) o.limit counts c.deref.result.now o.moves) c.counts_of.ensures none); prints = c.tell_within.ensures.prints }))
+    inr (inl (record { none = subst (λ calls. NoneOfAtMost o.variant (layout_of o) o.limit (crash_counts o) calls o.moves) calls (subst (λ counts. NoneOfAtMost o.variant (layout_of o) o.limit counts c.deref.result.now o.moves) c.counts_of.ensures (subst (λ layout. NoneOfAtMost o.variant layout o.limit c.counts_of.result c.deref.result.now o.moves) c.in_ok-layout.ensures.layout none)); prints = c.tell_within.ensures.prints }))
 
 pub returns-in-Ok-Nowhere-clause-ends : goal.returns-in-Ok-Nowhere-clause-ends
 returns-in-Ok-Nowhere-clause-ends g c =
@@ -35,10 +35,10 @@ returns-in-Ok-Nowhere-clause-ends g c =
     let number = rw c.in-Ok-Nowhere.field-0-is at (rw c.in-Ok-Nowhere.is at c.shortest_schedule_in_parallel-found.ensures.states) in
     let calls = c.deref.ensures.value ∙ c.in_ok-calls.ensures.listed in
     inr (inr (inl (record {
-      none = subst (λ calls. NoneIsFound o.variant (layout_of o) o.limit (crash_counts o) calls) calls (subst (λ counts. NoneIsFound o.variant (layout_of o) o.limit counts c.deref.result.now) c.counts_of.ensures none);
+      none = subst (λ calls. NoneIsFound o.variant (layout_of o) o.limit (crash_counts o) calls) calls (subst (λ counts. NoneIsFound o.variant (layout_of o) o.limit counts c.deref.result.now) c.counts_of.ensures (subst (λ layout. NoneIsFound o.variant layout o.limit c.counts_of.result c.deref.result.now) c.in_ok-layout.ensures.layout none));
       states = c.in-Ok-Nowhere.states;
       number = subst (λ variables. IsNumberOfStates (rules (key_by variables)) (first_search_state o.variant (layout_of o) o.limit (crash_counts o) (calls_of o)) c.in-Ok-Nowhere.states) c.variables_of.ensures
-          (subst (λ calls. IsNumberOfStates (rules (key_by c.variables_of.result)) (first_search_state o.variant (layout_of o) o.limit (crash_counts o) calls) c.in-Ok-Nowhere.states) calls (subst (λ counts. IsNumberOfStates (rules (key_by c.variables_of.result)) (first_search_state o.variant (layout_of o) o.limit counts c.deref.result.now) c.in-Ok-Nowhere.states) c.counts_of.ensures number));
+          (subst (λ calls. IsNumberOfStates (rules (key_by c.variables_of.result)) (first_search_state o.variant (layout_of o) o.limit (crash_counts o) calls) c.in-Ok-Nowhere.states) calls (subst (λ counts. IsNumberOfStates (rules (key_by c.variables_of.result)) (first_search_state o.variant (layout_of o) o.limit counts c.deref.result.now) c.in-Ok-Nowhere.states) c.counts_of.ensures (subst (λ layout. IsNumberOfStates (rules (key_by c.variables_of.result)) (first_search_state o.variant layout o.limit c.counts_of.result c.deref.result.now) c.in-Ok-Nowhere.states) c.in_ok-layout.ensures.layout number)));
       prints = c.tell_all.ensures.prints;
     })))
 
@@ -51,6 +51,6 @@ returns-in-Ok-Path-clause-ends g c =
     let few = rw c.in-Ok-Path.field-0-is at (rw c.in-Ok-Path.is at c.shortest_schedule_in_parallel-found.ensures.within) in
     ends_least o _ _ c.in-Ok-Path.path.items _ c.tell_path.result c.deref-in-Ok-Path.ensures.value
     (λ right. rw c.in-Ok-Path.field-0-is at (rw c.in-Ok-Path.is at (c.shortest_schedule_in_parallel-found.ensures.right right)))
-    (subst (λ calls. IsFoundIn o.variant (layout_of o) o.limit (crash_counts o) calls c.in-Ok-Path.path.items) calls (subst (λ counts. IsFoundIn o.variant (layout_of o) o.limit counts c.deref.result.now c.in-Ok-Path.path.items) c.counts_of.ensures found))
-    (subst (λ calls. IsShortestPath o.variant (layout_of o) o.limit (crash_counts o) calls c.in-Ok-Path.path.items) calls (subst (λ counts. IsShortestPath o.variant (layout_of o) o.limit counts c.deref.result.now c.in-Ok-Path.path.items) c.counts_of.ensures least))
+    (subst (λ calls. IsFoundIn o.variant (layout_of o) o.limit (crash_counts o) calls c.in-Ok-Path.path.items) calls (subst (λ counts. IsFoundIn o.variant (layout_of o) o.limit counts c.deref.result.now c.in-Ok-Path.path.items) c.counts_of.ensures (subst (λ layout. IsFoundIn o.variant layout o.limit c.counts_of.result c.deref.result.now c.in-Ok-Path.path.items) c.in_ok-layout.ensures.layout found)))
+    (subst (λ calls. IsShortestPath o.variant (layout_of o) o.limit (crash_counts o) calls c.in-Ok-Path.path.items) calls (subst (λ counts. IsShortestPath o.variant (layout_of o) o.limit counts c.deref.result.now c.in-Ok-Path.path.items) c.counts_of.ensures (subst (λ layout. IsShortestPath o.variant layout o.limit c.counts_of.result c.deref.result.now c.in-Ok-Path.path.items) c.in_ok-layout.ensures.layout least)))
     few c.tell_path.ensures.prints

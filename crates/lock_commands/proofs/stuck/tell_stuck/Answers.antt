@@ -37,8 +37,8 @@ returns-in-Ok-Fault-clause-ends g c =
     let least = rw c.in-Ok-Fault.field-0-is at (rw c.in-Ok-Fault.is at c.stuck_schedule-found.ensures.shortest) in
     ends_wrong o _ _ c.in-Ok-Fault.path.items _ c.tell_path.result c.deref-in-Ok-Fault.ensures.value c.tell_path.ensures.prints
     (λ right. rw c.in-Ok-Fault.field-0-is at (rw c.in-Ok-Fault.is at (c.stuck_schedule-found.ensures.right right)))
-    (subst (λ calls. IsFoundIn o.variant (layout_of o) o.limit (crash_counts o) calls c.in-Ok-Fault.path.items) calls (subst (λ counts. IsFoundIn o.variant (layout_of o) o.limit counts c.deref.result.now c.in-Ok-Fault.path.items) c.counts_of.ensures found))
-    (subst (λ calls. IsShortestPath o.variant (layout_of o) o.limit (crash_counts o) calls c.in-Ok-Fault.path.items) calls (subst (λ counts. IsShortestPath o.variant (layout_of o) o.limit counts c.deref.result.now c.in-Ok-Fault.path.items) c.counts_of.ensures least))
+    (subst (λ calls. IsFoundIn o.variant (layout_of o) o.limit (crash_counts o) calls c.in-Ok-Fault.path.items) calls (subst (λ counts. IsFoundIn o.variant (layout_of o) o.limit counts c.deref.result.now c.in-Ok-Fault.path.items) c.counts_of.ensures (subst (λ layout. IsFoundIn o.variant layout o.limit c.counts_of.result c.deref.result.now c.in-Ok-Fault.path.items) c.in_ok-layout.ensures.layout found)))
+    (subst (λ calls. IsShortestPath o.variant (layout_of o) o.limit (crash_counts o) calls c.in-Ok-Fault.path.items) calls (subst (λ counts. IsShortestPath o.variant (layout_of o) o.limit counts c.deref.result.now c.in-Ok-Fault.path.items) c.counts_of.ensures (subst (λ layout. IsShortestPath o.variant layout o.limit c.counts_of.result c.deref.result.now c.in-Ok-Fault.path.items) c.in_ok-layout.ensures.layout least)))
 
 pub returns-in-Ok-Stuck-clause-ends : goal.returns-in-Ok-Stuck-clause-ends
 returns-in-Ok-Stuck-clause-ends g c =
@@ -48,9 +48,9 @@ returns-in-Ok-Stuck-clause-ends g c =
     let stuck = rw c.in-Ok-Stuck.field-0-is at (rw c.in-Ok-Stuck.is at c.stuck_schedule-found.ensures.stuck) in
     let least = rw c.in-Ok-Stuck.field-0-is at (rw c.in-Ok-Stuck.is at c.stuck_schedule-found.ensures.shortest_stuck) in
     ends_stuck o _ _ c.in-Ok-Stuck.path.items _ c.tell_path-in-Ok-Stuck.result c.deref-in-Ok-Stuck.ensures.value c.tell_path-in-Ok-Stuck.ensures.prints
-    (subst (λ calls. NoneIsFound o.variant (layout_of o) o.limit (crash_counts o) calls) calls (subst (λ counts. NoneIsFound o.variant (layout_of o) o.limit counts c.deref.result.now) c.counts_of.ensures none))
-    (subst (λ calls. LeadsToStuck (rules search_state_words) (first_search_state o.variant (layout_of o) o.limit (crash_counts o) calls) c.in-Ok-Stuck.path.items) calls (subst (λ counts. LeadsToStuck (rules search_state_words) (first_search_state o.variant (layout_of o) o.limit counts c.deref.result.now) c.in-Ok-Stuck.path.items) c.counts_of.ensures stuck))
-    (subst (λ calls. IsShortestToStuck (rules search_state_words) (first_search_state o.variant (layout_of o) o.limit (crash_counts o) calls) c.in-Ok-Stuck.path.items) calls (subst (λ counts. IsShortestToStuck (rules search_state_words) (first_search_state o.variant (layout_of o) o.limit counts c.deref.result.now) c.in-Ok-Stuck.path.items) c.counts_of.ensures least))
+    (subst (λ calls. NoneIsFound o.variant (layout_of o) o.limit (crash_counts o) calls) calls (subst (λ counts. NoneIsFound o.variant (layout_of o) o.limit counts c.deref.result.now) c.counts_of.ensures (subst (λ layout. NoneIsFound o.variant layout o.limit c.counts_of.result c.deref.result.now) c.in_ok-layout.ensures.layout none)))
+    (subst (λ calls. LeadsToStuck (rules search_state_words) (first_search_state o.variant (layout_of o) o.limit (crash_counts o) calls) c.in-Ok-Stuck.path.items) calls (subst (λ counts. LeadsToStuck (rules search_state_words) (first_search_state o.variant (layout_of o) o.limit counts c.deref.result.now) c.in-Ok-Stuck.path.items) c.counts_of.ensures (subst (λ layout. LeadsToStuck (rules search_state_words) (first_search_state o.variant layout o.limit c.counts_of.result c.deref.result.now) c.in-Ok-Stuck.path.items) c.in_ok-layout.ensures.layout stuck)))
+    (subst (λ calls. IsShortestToStuck (rules search_state_words) (first_search_state o.variant (layout_of o) o.limit (crash_counts o) calls) c.in-Ok-Stuck.path.items) calls (subst (λ counts. IsShortestToStuck (rules search_state_words) (first_search_state o.variant (layout_of o) o.limit counts c.deref.result.now) c.in-Ok-Stuck.path.items) c.counts_of.ensures (subst (λ layout. IsShortestToStuck (rules search_state_words) (first_search_state o.variant layout o.limit c.counts_of.result c.deref.result.now) c.in-Ok-Stuck.path.items) c.in_ok-layout.ensures.layout least)))
 
 pub returns-in-Ok-NeverStuck-clause-ends : goal.returns-in-Ok-NeverStuck-clause-ends
 returns-in-Ok-NeverStuck-clause-ends g c =
@@ -60,9 +60,9 @@ returns-in-Ok-NeverStuck-clause-ends g c =
     let never = rw c.in-Ok-NeverStuck.field-0-is at (rw c.in-Ok-NeverStuck.is at c.stuck_schedule-found.ensures.never) in
     let number = rw c.in-Ok-NeverStuck.field-0-is at (rw c.in-Ok-NeverStuck.is at c.stuck_schedule-found.ensures.states) in
     inr (inr (inl (record {
-      none = subst (λ calls. NoneIsFound o.variant (layout_of o) o.limit (crash_counts o) calls) calls (subst (λ counts. NoneIsFound o.variant (layout_of o) o.limit counts c.deref.result.now) c.counts_of.ensures none);
-      never = subst (λ calls. IsNeverStuck (rules search_state_words) (first_search_state o.variant (layout_of o) o.limit (crash_counts o) calls)) calls (subst (λ counts. IsNeverStuck (rules search_state_words) (first_search_state o.variant (layout_of o) o.limit counts c.deref.result.now)) c.counts_of.ensures never);
+      none = subst (λ calls. NoneIsFound o.variant (layout_of o) o.limit (crash_counts o) calls) calls (subst (λ counts. NoneIsFound o.variant (layout_of o) o.limit counts c.deref.result.now) c.counts_of.ensures (subst (λ layout. NoneIsFound o.variant layout o.limit c.counts_of.result c.deref.result.now) c.in_ok-layout.ensures.layout none));
+      never = subst (λ calls. IsNeverStuck (rules search_state_words) (first_search_state o.variant (layout_of o) o.limit (crash_counts o) calls)) calls (subst (λ counts. IsNeverStuck (rules search_state_words) (first_search_state o.variant (layout_of o) o.limit counts c.deref.result.now)) c.counts_of.ensures (subst (λ layout. IsNeverStuck (rules search_state_words) (first_search_state o.variant layout o.limit c.counts_of.result c.deref.result.now)) c.in_ok-layout.ensures.layout never));
       states = c.in-Ok-NeverStuck.states;
-      number = subst (λ calls. IsNumberOfStates (rules search_state_words) (first_search_state o.variant (layout_of o) o.limit (crash_counts o) calls) c.in-Ok-NeverStuck.states) calls (subst (λ counts. IsNumberOfStates (rules search_state_words) (first_search_state o.variant (layout_of o) o.limit counts c.deref.result.now) c.in-Ok-NeverStuck.states) c.counts_of.ensures number);
+      number = subst (λ calls. IsNumberOfStates (rules search_state_words) (first_search_state o.variant (layout_of o) o.limit (crash_counts o) calls) c.in-Ok-NeverStuck.states) calls (subst (λ counts. IsNumberOfStates (rules search_state_words) (first_search_state o.variant (layout_of o) o.limit counts c.deref.result.now) c.in-Ok-NeverStuck.states) c.counts_of.ensures (subst (λ layout. IsNumberOfStates (rules search_state_words) (first_search_state o.variant layout o.limit c.counts_of.result c.deref.result.now) c.in-Ok-NeverStuck.states) c.in_ok-layout.ensures.layout number));
       prints = c.tell_never.ensures.prints;
     })))

@@ -1,6 +1,6 @@
 use Rattle.std.proofs.Common.{◌≡◌, map, take}
-use Rattle.algorithm_texts.specs.FaultDetails.{block_line}
-use Rattle.algorithm_texts.proofs.fault_details.block_lines.Given as goal
+use Rattle.algorithm_texts.specs.BlockLines.{block_line}
+use Rattle.algorithm_texts.proofs.block_lines.block_lines.Given as goal
 
 -- what the lines so far do
 abbrev pub invariant-loop-line : goal.invariant-loop-line

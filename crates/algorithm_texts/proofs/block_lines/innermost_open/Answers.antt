@@ -1,6 +1,6 @@
 use Rattle.std.proofs.Common.{◌-◌, sym, ◌∙◌, arith}
 use Rattle.algorithm_texts.proofs.OpenBlocks.{found_here}
-use Rattle.algorithm_texts.proofs.fault_details.innermost_open.Goals as goal
+use Rattle.algorithm_texts.proofs.block_lines.innermost_open.Goals as goal
 
 pub returns-then-may_stay_open-clause-place : goal.returns-then-may_stay_open-clause-place
 returns-then-may_stay_open-clause-place c =

@@ -1,6 +1,6 @@
 use Rattle.std.proofs.Common.{◌≡◌, ◌+◌, ◌≤◌, count_by, length, drop, None}
-use Rattle.algorithm_texts.specs.FaultDetails.{begins_block, ends_block, innermost_open}
-use Rattle.algorithm_texts.proofs.fault_details.innermost_open.Given as goal
+use Rattle.algorithm_texts.specs.BlockLines.{begins_block, ends_block, innermost_open}
+use Rattle.algorithm_texts.proofs.block_lines.innermost_open.Given as goal
 
 -- no block of the lines from here on is open
 abbrev pub invariant-loop-place : goal.invariant-loop-place

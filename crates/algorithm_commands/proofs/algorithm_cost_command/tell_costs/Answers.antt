@@ -26,8 +26,8 @@ returns-in_ok-schedule-in-Ok-clause-ends g c =
 
 pub returns-in-Err-Refused-clause-ends : goal.returns-in-Err-Refused-clause-ends
 returns-in-Err-Refused-clause-ends g c =
-    inr (inr (inl (
+    inr (inl (
       refl,
       no_size c.args.algorithm c.args.args.now.search (search_of c.in_ok-search.search) c.in-Err-Refused.field-0-0 _ c.in_ok-search.ensures
           ((c.algorithm_cost-found.ensures.refused c.in-Err-Refused.field-0-0).0 (search rules)),
-    )))
+    ))

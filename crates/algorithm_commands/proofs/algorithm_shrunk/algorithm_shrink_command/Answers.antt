@@ -6,6 +6,11 @@ use Rattle.algorithm_commands.specs.AlgorithmShrinks.{ShrinksAlgorithm}
 use Rattle.algorithm_commands.proofs.AlgorithmTexts.{both_read, no_algorithm, no_schedule}
 use Rattle.algorithm_commands.proofs.algorithm_shrunk.algorithm_shrink_command.Goals as goal
 
+pub returns-in_err-algorithm-clause-ends : goal.returns-in_err-algorithm-clause-ends
+returns-in_err-algorithm-clause-ends g c =
+    let p = err_from_is_err_and c.from_residual.result c.from_residual.ensures.1 in
+    rw (p.1, p.2) (no_algorithm (option_copied c.args.text) (g.R.Source.reading c.args.r.now) (g.W.Sink.tape c.args.w.now) _ c.in_err-algorithm.ensures.unread)
+
 pub returns-in_err-numbers-clause-ends : goal.returns-in_err-numbers-clause-ends
 returns-in_err-numbers-clause-ends g c =
     let p = err_from_is_err_and c.from_residual-in_err-numbers.result c.from_residual-in_err-numbers.ensures.1 in

@@ -4,7 +4,7 @@ use Rattle.crashlab.specs.declared.space.moves.Move.{Move}
 use Rattle.crashlab.specs.space.Spaces.{SearchState, first_search_state}
 use Rattle.passages.specs.declared.question.CostQuestion.{CostQuestion}
 use Rattle.passages.specs.PassageCosts.{HasMoreCostStates, IsCostFrom}
-use Rattle.passages.specs.PassageSpaces.{passage_costs, passage_rules, variant_schedules}
+use Rattle.passages.specs.PassageSpaces.{passage_rules, variant_schedules}
 use Rattle.passages.specs.declared.question.PassageCost.{PassageCost}
 use Rattle.lock_explorer.specs.VariantCosts.{passages_from}
 use Rattle.schedule.specs.Schedules.{spelling}
@@ -33,7 +33,7 @@ pub record TellsVariantCost (args : VariantCostArgs) (before now : Tape) (end : 
 
 -- there are more states than may be kept, and nothing was written
 pub record HasTooManyPassageStates (args : VariantCostArgs) (before now : Tape) : Type 0 where
-  pub more : HasMoreCostStates passage_rules passage_costs (passages_from (question_of args) (start_of args)) args.search.procs args.search.states
+  pub more : HasMoreCostStates passage_rules (passages_from (question_of args) (start_of args)) args.search.procs args.search.states
   pub silent : Silent before now
 
 -- how `cost --variant` ends

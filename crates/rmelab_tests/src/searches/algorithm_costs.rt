@@ -1,5 +1,5 @@
-//! The costs of algorithms. The schedules are those of the reference program of the format's second version, with the moves in the
-//! order in which `rmelab` tries them.
+//! The costs of algorithms. The schedules have as many moves as those of the reference program of the format's second version, and cost
+//! as much by its counting.
 
 /// `COSTLY`: process 0 stores three times, and reads each of the other's words anew. `SHARED`: the other has read its flag before it
 /// stores again. `FREE`: nobody starts a lock. `ALONE_COSTS`: it reads the word, and stores twice. `SPINS`: it waits for itself.
@@ -15,11 +15,11 @@ step 1
 step 0
 step 0
 step 0
-step 0
 unlock 1
 step 1
 lock 1
 step 1
+step 0
 step 0
 step 1
 step 0
@@ -35,13 +35,13 @@ step 1
 step 1
 step 0
 step 0
-step 0
 step 1
 step 1
 unlock 1
 step 1
 lock 1
 step 1
+step 0
 step 0
 step 1
 step 0

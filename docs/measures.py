@@ -219,7 +219,7 @@ MEASURES = [
     Measure("files", "files of src and specs named by a gerund", 0, gerunds),
     Measure("behind", "uses of an identifier with `behind`", 0, lambda: uses_in_names("behind")),
     Measure("told", "uses of an identifier with `told`", 11, lambda: uses_in_names("told")),
-    Measure("lines", "lines of src, specs and proofs", 215_020, lines),
+    Measure("lines", "lines of src, specs and proofs", 215_469, lines),
 ]
 MOST_PAIRS_ALIKE = 474
 
